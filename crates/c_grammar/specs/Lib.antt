@@ -1,0 +1,11 @@
+pub mod Parts
+pub mod Types
+pub mod Exprs
+pub mod Stmts
+pub mod Items
+pub mod Reading
+pub mod ReadExprs
+pub mod ReadStmts
+pub mod ReadItems
+pub mod Laws
+pub mod Named

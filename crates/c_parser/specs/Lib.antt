@@ -1,0 +1,3 @@
+pub mod StraightLine
+pub mod FirstText
+pub mod Reading

@@ -1,0 +1,29 @@
+use Rattle.std.proofs.Common.{rules, sym}
+use Rattle.std.proofs.lemmas.Result.{IfOk-weaker}
+use Rattle.clouseau_core.specs.Report.{most_bytes, usage, read_fault, too_long, judged}
+use Rattle.clouseau_core.proofs.Given.{longer}
+use Rattle.clouseau_core.proofs.check.answer_to.Goals as goal
+
+pub returns-in-None-clause-answer : goal.returns-in-None-clause-answer
+returns-in-None-clause-answer g c =
+    IfOk-weaker c.refused.result _ _ (λ a h. rw (h.0, h.1, h.2) (usage (sym c.in-None.ensures))) c.refused.ensures
+
+pub returns-in-Ok-clause-answer : goal.returns-in-Ok-clause-answer
+returns-in-Ok-clause-answer g c =
+    IfOk-weaker c.judge.result _ _
+    (λ a h. judged c.in-Some.name.now c.as_slice.result.now a.verdict a.out.items a.err.items (sym c.in-Some.ensures) (search rules) (search rules) h)
+    c.judge.ensures
+
+pub returns-in-Err-ReadFault-clause-answer : goal.returns-in-Err-ReadFault-clause-answer
+returns-in-Err-ReadFault-clause-answer g c =
+    IfOk-weaker c.refused-in-Err-ReadFault.result _ _
+    (λ a h. rw (h.0, h.1, h.2) (read_fault c.in-Some.name.now (sym c.in-Some.ensures) (c.read_file.ensures.fault (search rules))))
+    c.refused-in-Err-ReadFault.ensures
+
+pub returns-in-Err-TooLong-clause-answer : goal.returns-in-Err-TooLong-clause-answer
+returns-in-Err-TooLong-clause-answer g c =
+    IfOk-weaker c.refused-in-Err-TooLong.result _ _
+    (λ a h. rw (h.0, h.1, h.2)
+    (too_long c.in-Some.name.now (sym c.in-Some.ensures)
+    (longer (g.F.Files.held c.args.files.now c.in-Some.name.now) (g.F.Files.left c.read_file.new.files) most_bytes (c.read_file.ensures.too_long (search rules)))))
+    c.refused-in-Err-TooLong.ensures

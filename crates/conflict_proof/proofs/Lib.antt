@@ -1,0 +1,9 @@
+pub mod Cases
+pub mod Digits
+pub mod ClauseLemmas
+pub mod NumberLemmas
+pub mod LineLemmas
+pub mod TextLemmas
+pub mod FeedLemmas
+pub mod ReadLemmas
+pub mod PrintLemmas

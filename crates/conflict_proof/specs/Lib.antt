@@ -1,0 +1,4 @@
+pub mod Values
+pub mod Text
+pub mod Fault
+pub mod Fronts

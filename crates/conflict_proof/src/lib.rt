@@ -1,0 +1,32 @@
+//! Derivations: how constraints are refuted, line by line, and their text.
+//!
+//! A derivation is a list of clauses, each of which is a clause of a named constraint, a resolvent of two
+//! earlier lines, or an earlier line of another call group carried to a call. This crate has the types, the
+//! names of constraints with their order, and the text:
+//! - [`print`] gives a derivation's text, which `derivation_text` of `specs/Text` says line by line.
+//! - [`read`] gives the one derivation whose text the bytes are, and else names the first line that can't be
+//!   continued to such a text.
+//! - [`decimal`] and [`literals`] read the numbers and the clauses of such texts.
+//!
+//! Reading and printing take time and memory in proportion to the text. The crate stands on `zo_core` for
+//! clauses, on `c_tree` for want of memory and on `itoa`.
+#![tactic(auto)]
+
+mod clauses;
+mod derivation;
+mod faults;
+mod names;
+mod numbers;
+mod printer;
+mod reader;
+
+pub use clauses::literals;
+pub use derivation::{Derivation, How, Line, Lines};
+pub use faults::{BadLine, CheckError, Reason, TextError};
+pub use names::{ConstraintName, Names};
+pub use numbers::decimal;
+pub use printer::print;
+pub use reader::read;
+
+#[cfg(test)]
+mod tests;

@@ -1,0 +1,10 @@
+//! Worked examples: whole runs of the program over files in memory, as tables.
+//!
+//! This crate has only tests. What they expect is worked out by hand from the rules and the texts that
+//! docs/ describes, and never copied from what the program prints.
+#![tactic(auto)]
+
+#[cfg(test)]
+mod first_run;
+#[cfg(test)]
+mod harness;
