@@ -28,14 +28,14 @@ digits_lone (c ∷ ds) all =
     let h = both (is_ascii_digit c) (all_ascii_digits ds) all in
     rw (digit_no_feed c (c == 10) refl h.0) (digits_lone ds h.1)
 
-decimal_lone : (n : ℕ) → n < 2 ^ 64 → line_feeds (decimal n) ≡ 0
+pub decimal_lone : (n : ℕ) → n < 2 ^ 64 → line_feeds (decimal n) ≡ 0
 decimal_lone n small = digits_lone (decimal n) (decimal_digits n small)
 
 -- a piece of text after a space
 spaced_lone : (b : ℕ) (w more : List ℕ) → (b == 10) ≡ false → line_feeds w ≡ 0 → line_feeds more ≡ 0 → line_feeds ((b ∷ w) ++ more) ≡ 0
 spaced_lone b w more other lone rest = feeds-append (b ∷ w) more ∙ rw other (omega (arith, lone, rest))
 
-numbers_lone : (ns : List ℕ) → All (λ n. n < 2 ^ 32) ns → line_feeds (numbers_text ns) ≡ 0
+pub numbers_lone : (ns : List ℕ) → All (λ n. n < 2 ^ 32) ns → line_feeds (numbers_text ns) ≡ 0
 numbers_lone [] small = refl
 numbers_lone (n ∷ ns) small =
     let s : n < 2 ^ 32 = small 0 n (omega arith) in

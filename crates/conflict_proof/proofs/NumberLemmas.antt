@@ -11,7 +11,7 @@ pub numbers_push : (ns : List ℕ) (n : ℕ) → numbers_text (ns ++ n ∷ []) �
 numbers_push [] n = append-nil (32 ∷ decimal n)
 numbers_push (m ∷ ns) n = ap (λ (w : List ℕ). (32 ∷ decimal m) ++ w) (numbers_push ns n) ∙ sym (append_assoc (32 ∷ decimal m) (numbers_text ns) (32 ∷ decimal n))
 
-numbers_end : (ns more : List ℕ) → NoDigit more → NoDigit (numbers_text ns ++ more)
+pub numbers_end : (ns more : List ℕ) → NoDigit more → NoDigit (numbers_text ns ++ more)
 numbers_end [] more none = none
 numbers_end (n ∷ ns) more none = refl
 

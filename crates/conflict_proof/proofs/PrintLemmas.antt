@@ -10,7 +10,7 @@ use Rattle.conflict_proof.specs.Values.{IsLine}
 use Rattle.conflict_proof.proofs.ClauseLemmas.{clause_push}
 use Rattle.conflict_proof.proofs.ReadLemmas.{feeds_join}
 
-taken : {X : Type 0} (xs : List X) (i : ℕ) (x : X) → i < length xs → x ≡ get_or xs i x → take (i + 1) xs ≡ take i xs ++ x ∷ []
+pub taken : {X : Type 0} (xs : List X) (i : ℕ) (x : X) → i < length xs → x ≡ get_or xs i x → take (i + 1) xs ≡ take i xs ++ x ∷ []
 taken xs i x low is = take_more xs i x low ∙ ap (λ y. take i xs ++ y ∷ []) (sym is)
 
 pub one_literal : (xs : List Literal) (i : ℕ) (x : Literal) (start how out new : List ℕ) → i < length xs → x ≡ get_or xs i x

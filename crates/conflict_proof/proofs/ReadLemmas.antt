@@ -43,7 +43,7 @@ data Match (ms ls : List Line) (end : List ℕ) (xs : List (List ℕ)) : Type 0 
   ended : ms ≡ ls → xs ≡ end ∷ [] → Match ms ls end xs
   goes_on : (m : Line) (ys : List (List ℕ)) → IsLine m → xs ≡ line_text m ∷ ys → Match ms ls end xs
 
-heads : (u v : List ℕ) (us vs : List (List ℕ)) → u ∷ us ≡ v ∷ vs → (u ≡ v) × (us ≡ vs)
+pub heads : (u v : List ℕ) (us vs : List (List ℕ)) → u ∷ us ≡ v ∷ vs → (u ≡ v) × (us ≡ vs)
 heads u v us vs e = (ap (λ w. first w u) e, ap rest e)
   where
     first : List (List ℕ) → List ℕ → List ℕ

@@ -26,12 +26,16 @@ BeginsText bs = (d : Derivation) × IsDerivation d × (more : List ℕ) × (deri
 abbrev pub IsNoText : List ℕ → Type 0
 IsNoText bs = (d : Derivation) → IsDerivation d → bs ≡ derivation_text d → ⊥
 
--- line n, from 1, is the first that can't be continued: the lines before it begin a text, and those up to it
+-- Line n, from 1, is the first that can't be continued: the lines before it begin a text, and those up to it
 -- don't. What follows the last line feed counts as a line that can't be continued, since it ends without one.
-pub record IsFirstBadLine (bs : List ℕ) (n : ℕ) : Type 0 where
-  pub before : (k : ℕ) → k < n → BeginsText (first_lines k bs)
-  pub here : n ≤ line_feeds bs → BeginsText (first_lines n bs) → ⊥
+-- Which bytes begin a text is for each kind of text to say.
+pub record IsFirstBadLineOf (Begins : List ℕ → Type 0) (bs : List ℕ) (n : ℕ) : Type 0 where
+  pub before : (k : ℕ) → k < n → Begins (first_lines k bs)
+  pub here : n ≤ line_feeds bs → Begins (first_lines n bs) → ⊥
   pub within : n ≤ line_feeds bs + 1
+
+abbrev pub IsFirstBadLine : List ℕ → ℕ → Type 0
+IsFirstBadLine bs n = IsFirstBadLineOf BeginsText bs n
 
 -- the refusal at line n
 abbrev pub IsFormAt : ℕ → TextError → Type 0

@@ -18,8 +18,8 @@ pub fn decimal(text: &[u8], at: usize) -> Option<(u64, usize)>
     Some((n, text.len() - rest.len()))
 }
 
-/// What follows a word at the front.
-pub(crate) fn after_word<'a>(text: &'a [u8], word: &[u8]) -> Option<&'a [u8]>
+/// What follows a word at the front. None where the word is not there.
+pub fn after_word<'a>(text: &'a [u8], word: &[u8]) -> Option<&'a [u8]>
     ensures { MatchOption result (BeginsNot word.now text.entry.now) (λ rest. text.entry.now ≡ word.now ++ rest.now) }
 {
     text.strip_prefix(word)
@@ -69,15 +69,16 @@ pub(crate) fn number_below(text: &[u8], top: u64) -> Option<(u32, &[u8])>
     None
 }
 
-/// A space and a number of 32 bits at the front.
-fn field(text: &[u8]) -> Option<(u32, &[u8])>
+/// A space and a number of 32 bits at the front, and what follows it.
+pub fn field(text: &[u8]) -> Option<(u32, &[u8])>
     ensures { MatchOption result (NoField text.now) (λ found. IsField text.now found.0 found.1.now) }
 {
     number_below(after_word(text, b" ")?, 1 << 32)
 }
 
 /// Reads numbers of 32 bits, each after a space, as many as there is room for, and gives what follows them.
-pub(crate) fn fill<'a>(text: &'a [u8], numbers: &mut [u32]) -> Option<&'a [u8]>
+/// None where fewer stand there.
+pub fn fill<'a>(text: &'a [u8], numbers: &mut [u32]) -> Option<&'a [u8]>
     ensures read { MatchOption result (NoNumbers (length numbers.old) text.entry.now)
         (λ rest. AreNumbers text.entry.now numbers.new rest.now) }
     ensures len { length numbers.new ≡ length numbers.old }

@@ -81,7 +81,7 @@ fn axiom_numbers(group: u32, name: ConstraintName) -> [u32; 8]
 }
 
 /// Adds each number after a space.
-fn put_numbers(out: &mut Vec<u8>, numbers: &[u32]) -> Result<(), Memory>
+pub fn put_numbers(out: &mut Vec<u8>, numbers: &[u32]) -> Result<(), Memory>
     ensures { OnOk result (out.new.items ≡ out.old.items ++ numbers_text numbers.now) }
 {
     for n in numbers {
@@ -103,8 +103,8 @@ fn put_literal(out: &mut Vec<u8>, lit: Lit) -> Result<(), Memory>
     put_decimal(out, lit.var().number())
 }
 
-/// Adds a number.
-fn put_decimal(out: &mut Vec<u8>, n: u32) -> Result<(), Memory>
+/// Adds a number in decimal.
+pub fn put_decimal(out: &mut Vec<u8>, n: u32) -> Result<(), Memory>
     ensures { OnOk result (out.new.items ≡ out.old.items ++ decimal n) }
 {
     let mut buffer = Buffer::new();

@@ -53,8 +53,8 @@ fn lines(alloc: Global, text: &[u8]) -> Result<(Vec<Line>, &[u8]), Memory>
     Ok((items, rest))
 }
 
-/// The fault of a line that can't be continued.
-fn form_at(line: u64) -> TextError
+/// The fault of a line that can't be continued to a text.
+pub fn form_at(line: u64) -> TextError
     ensures { IsFormAt line result }
 {
     TextError::Invalid(BadLine {

@@ -1,0 +1,9 @@
+pub mod LineLemmas
+pub mod FormLemmas
+pub mod RunLemmas
+pub mod DraftLemmas
+pub mod ReachLemmas
+pub mod RoomLemmas
+pub mod ReadLemmas
+pub mod PrintLemmas
+pub mod HolderLemmas

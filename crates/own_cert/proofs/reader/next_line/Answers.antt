@@ -1,0 +1,5 @@
+use Rattle.own_cert.proofs.ReadLemmas.{lone_more}
+use Rattle.own_cert.proofs.reader.next_line.Goals as goal
+
+pub loop-end-preserved : goal.loop-end-preserved
+loop-end-preserved c = lone_more c.args.text.now c.loop-end.end c.loop-end-test.true c.loop-end.invariant c.if-byte-eq10.false
