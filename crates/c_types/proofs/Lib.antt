@@ -1,0 +1,10 @@
+pub mod Declares
+pub mod Firsts
+pub mod ItemRows
+pub mod Law
+pub mod LimitRows
+pub mod NameLemmas
+pub mod Rows
+pub mod Scopes
+pub mod Tags
+pub mod Walks

@@ -1,0 +1,375 @@
+//! The rules of declarations, and the procedures of a file.
+
+ghost use Rattle.std.specs.Prelude.{◌≡◌, [], ◌∷◌, ◌++◌, ◌&&◌, ◌||◌, not, map, is_some, is_none, true, false, option_map, IfOk, OnOk};
+ghost use Rattle.std.specs.Option.{option_map_or};
+ghost use Rattle.c_tree.specs.View.{proc_view, stmt_view};
+ghost use Rattle.c_types.specs.Breaches.{soonest, sooner, breach_if};
+ghost use Rattle.c_types.specs.Names.{has_name, with_name};
+ghost use Rattle.c_types.specs.Types.{is_pointer, same_types, same_result, same_signature};
+ghost use Rattle.c_types.specs.Scopes.{no_scope, is_empty, breaks_5, with_param, with_params};
+ghost use Rattle.c_types.specs.Declarations.{has_body, signature_of, with_body, with_bodies};
+ghost use Rattle.c_types.specs.Items.{breaks_3, breaks_4, members_breaches, structs_breaches, params_breaches, body_breaches, body_after, body_infos, ret_slots, proc_breaches, procs_breaches, proc_info, chosen, with_prototype, bodied_infos, external_infos};
+
+use crate::declarations::{add_bodies, result_type, signature};
+use crate::exprs::either;
+use crate::infos::{NodeInfo, NodeInfos, ProcInfo, SlotInfo, SlotInfos};
+use crate::kinds::{SlotType, same_type};
+use crate::names::{Names, number_of};
+use crate::rules::{Breach, breach_if, sooner};
+use crate::scope::{Scope, SlotNumbers, add_slot, declare};
+use crate::stmts::{check_stmt, check_stmts, note_plain};
+use crate::tables::{Signature, Tables, slot_type};
+use c_tree::{Member, Memory, Name, ProcItem, Span, Stmt, StmtForm, StructDef};
+use std::alloc::Global;
+
+/// Adds the name, and says whether it was there.
+fn repeats<'t>(names: &mut Names<'t>, name: &'t Name) -> Result<bool, Memory>
+    ensures again { IfOk result (λ again. again ≡ has_name names.old name.now) }
+    ensures names { OnOk result (names.new ≡ with_name names.old name.now) }
+{
+    let again = names.has(name.items.as_slice());
+    names.add(name.items.as_slice())?;
+    Ok(again)
+}
+
+fn check_member<'t>(seen: &mut Names<'t>, m: &'t Member) -> Result<Option<Breach>, Memory>
+    ensures first { IfOk result (λ b. b ≡ breach_if soonest (has_name seen.old m.now.name) m.now.at 2) }
+    ensures names { OnOk result (seen.new ≡ with_name seen.old m.now.name) }
+{
+    let again = repeats(seen, &m.name)?;
+    Ok(breach_if(again, m.at, 2))
+}
+
+/// The members of a struct have different names.
+#[tactic(auto, using(crate::proofs::ItemRows::members_breaches_at, crate::proofs::Firsts::sooner_assoc, crate::proofs::Firsts::sooner_left, crate::proofs::Firsts::sooner_right))]
+fn check_members(alloc: Global, members: &[Member]) -> Result<Option<Breach>, Memory>
+    ensures { IfOk result (λ b. b ≡ members_breaches soonest [] members.now) }
+{
+    let mut seen = Names::new(alloc);
+    let mut first = None;
+    for m in members {
+        let found = check_member(&mut seen, m)?;
+        first = sooner(first, found);
+    }
+    Ok(first)
+}
+
+fn check_struct<'t>(
+    alloc: Global,
+    seen: &mut Names<'t>,
+    d: &'t StructDef,
+) -> Result<Option<Breach>, Memory>
+    ensures first { IfOk result (λ b. b ≡ sooner (breach_if soonest (has_name seen.old d.now.tag) d.now.at 1) (members_breaches soonest [] d.now.members)) }
+    ensures names { OnOk result (seen.new ≡ with_name seen.old d.now.tag) }
+{
+    let again = repeats(seen, &d.tag)?;
+    let inside = check_members(alloc, d.members.as_slice())?;
+    Ok(sooner(breach_if(again, d.at, 1), inside))
+}
+
+/// A struct has at most one definition, and its members have different names.
+#[tactic(auto, using(crate::proofs::ItemRows::structs_breaches_at, crate::proofs::Firsts::sooner_assoc, crate::proofs::Firsts::sooner_left, crate::proofs::Firsts::sooner_right))]
+pub(crate) fn check_structs(alloc: Global, structs: &[StructDef]) -> Result<Option<Breach>, Memory>
+    ensures { IfOk result (λ b. b ≡ structs_breaches soonest [] structs.now) }
+{
+    let mut seen = Names::new(alloc);
+    let mut first = None;
+    for d in structs {
+        let found = check_struct(alloc, &mut seen, d)?;
+        first = sooner(first, found);
+    }
+    Ok(first)
+}
+
+#[tactic(auto, using(crate::proofs::ItemRows::same_types_at, crate::proofs::ItemRows::same_types_end))]
+fn same_types(a: &[SlotType], b: &[SlotType]) -> bool
+    ensures { result ≡ same_types a.now b.now }
+{
+    if a.len() != b.len() {
+        return false;
+    }
+    for i in 0..a.len() {
+        if !same_type(a[i], b[i]) {
+            return false;
+        }
+    }
+    true
+}
+
+fn same_result(a: Option<SlotType>, b: Option<SlotType>) -> bool
+    ensures { result ≡ same_result a b }
+{
+    match (a, b) {
+        (None, None) => true,
+        (Some(k), Some(l)) => same_type(k, l),
+        (None, Some(_)) | (Some(_), None) => false,
+    }
+}
+
+fn same_signature(a: &Signature, b: &Signature) -> bool
+    ensures { result ≡ same_signature a.now b.now }
+{
+    let params = same_types(a.params.items.as_slice(), b.params.items.as_slice());
+    params && same_result(a.result, b.result)
+}
+
+/// Whether the procedure agrees with the first prototype or body of its name.
+fn agrees(tables: &Tables, name: &[u8], own: &Signature) -> bool
+    ensures { result ≡ option_map_or (same_signature own.now) (signature_of tables.now name.now) true }
+{
+    let place = tables.declared.place(name) as usize;
+    match tables.signatures.items.get(place) {
+        Some(first) => same_signature(own, first),
+        None => true,
+    }
+}
+
+/// All prototypes and the body of one name agree with the first of them, and there is at most one
+/// body.
+fn breaks_3(alloc: Global, tables: &Tables, bodied: &Names, p: &ProcItem) -> Result<bool, Memory>
+    ensures { IfOk result (λ b. b ≡ breaks_3 tables.now bodied.now (proc_view p.now)) }
+{
+    let own = signature(alloc, &tables.tags, p)?;
+    let name = p.name.items.as_slice();
+    let again = is_again(bodied, name, &p.body);
+    Ok(either(!agrees(tables, name, &own), again))
+}
+
+fn is_again(bodied: &Names, name: &[u8], body: &Option<Stmt>) -> bool
+    ensures { result ≡ (is_some body.now && has_name bodied.now name.now) }
+{
+    match body {
+        Some(_) => bodied.has(name),
+        None => false,
+    }
+}
+
+/// A procedure without a body returns an int, a char or nothing.
+fn breaks_4(tables: &Tables, name: &[u8], returned: Option<SlotType>) -> bool
+    ensures { result ≡ (not (has_body tables.now name.now) && option_map_or is_pointer returned false) }
+{
+    match returned {
+        Some(k) => !tables.has_body(name) && k.is_pointer(),
+        None => false,
+    }
+}
+
+/// Declares a parameter where it has a name.
+fn check_param(
+    alloc: Global,
+    tables: &Tables,
+    scope: &mut Scope,
+    m: &Member,
+) -> Result<Option<Breach>, Memory>
+    ensures first { IfOk result (λ b. b ≡ breach_if soonest (not (is_empty m.now.name) && breaks_5 scope.old m.now.name) m.now.at 5) }
+    ensures after { OnOk result (scope.new ≡ with_param tables.now.tags scope.old m.now) }
+{
+    let kind = slot_type(&tables.tags, &m.kind);
+    match m.name.items.as_slice() {
+        [] => {
+            add_slot(alloc, scope, &m.name, kind, m.at)?;
+            Ok(None)
+        }
+        [_, ..] => {
+            let again = breach_if(scope.declares(m.name.items.as_slice()), m.at, 5);
+            declare(alloc, scope, &m.name, kind, m.at)?;
+            Ok(again)
+        }
+    }
+}
+
+#[tactic(auto, using(crate::proofs::ItemRows::params_breaches_at, crate::proofs::ItemRows::with_params_at, crate::proofs::Firsts::sooner_assoc, crate::proofs::Firsts::sooner_left, crate::proofs::Firsts::sooner_right))]
+fn check_params(
+    alloc: Global,
+    tables: &Tables,
+    scope: &mut Scope,
+    params: &[Member],
+) -> Result<Option<Breach>, Memory>
+    ensures first { IfOk result (λ b. b ≡ params_breaches soonest tables.now scope.old params.now) }
+    ensures after { OnOk result (scope.new ≡ with_params tables.now.tags scope.old params.now) }
+{
+    let mut first = None;
+    for m in params {
+        let found = check_param(alloc, tables, scope, m)?;
+        first = sooner(first, found);
+    }
+    Ok(first)
+}
+
+/// Checks a body, whose outermost block is the scope of the parameters.
+fn check_body(
+    alloc: Global,
+    tables: &Tables,
+    returned: Option<SlotType>,
+    scope: &mut Scope,
+    body: &Option<Stmt>,
+    nodes: &mut Vec<NodeInfo>,
+) -> Result<Option<Breach>, Memory>
+    ensures first { IfOk result (λ b. b ≡ body_breaches soonest tables.now returned scope.old (option_map stmt_view body.now)) }
+    ensures after { OnOk result (scope.new ≡ body_after tables.now scope.old (option_map stmt_view body.now)) }
+    ensures nodes { OnOk result (nodes.new.items ≡ nodes.old.items ++ body_infos tables.now returned scope.old (option_map stmt_view body.now)) }
+{
+    match body {
+        None => Ok(None),
+        Some(s) => match &s.form {
+            StmtForm::Block(ss) => {
+                note_plain(nodes)?;
+                check_stmts(alloc, tables, returned, false, scope, ss.as_slice(), nodes)
+            }
+            StmtForm::Local(_, _, None)
+            | StmtForm::Local(_, _, Some(_))
+            | StmtForm::Assign(_, _)
+            | StmtForm::Do(_)
+            | StmtForm::Free(_)
+            | StmtForm::If(_, _, None)
+            | StmtForm::If(_, _, Some(_))
+            | StmtForm::While(_, _)
+            | StmtForm::For(_, _, _, _)
+            | StmtForm::Break
+            | StmtForm::Continue
+            | StmtForm::Return(None)
+            | StmtForm::Return(Some(_))
+            | StmtForm::Nothing => check_stmt(alloc, tables, returned, false, scope, s, nodes),
+        },
+    }
+}
+
+/// Adds the slot of the result of a procedure that has a body.
+fn add_result(
+    alloc: Global,
+    slots: &mut SlotInfos,
+    body: &Option<Stmt>,
+    returned: Option<SlotType>,
+    close: Span,
+) -> Result<(), Memory>
+    ensures { OnOk result (slots.new ≡ slots.old ++ ret_slots (option_map stmt_view body.now) returned close) }
+{
+    match body {
+        None => Ok(()),
+        Some(_) => match returned {
+            None => Ok(()),
+            Some(kind) => {
+                let items = Vec::new(alloc);
+                let name = Name { items };
+                slots.items.push(SlotInfo {
+                    name,
+                    kind,
+                    at: close,
+                })?;
+                Ok(())
+            }
+        },
+    }
+}
+
+/// Checks a procedure whose item has that place, where these names have a body before.
+fn check_proc(
+    alloc: Global,
+    tables: &Tables,
+    bodied: &Names,
+    item: usize,
+    p: &ProcItem,
+) -> Result<(ProcInfo, Option<Breach>), Memory>
+    ensures info { IfOk result (λ r. r.0 ≡ proc_info tables.now item (proc_view p.now)) }
+    ensures first { IfOk result (λ r. r.1 ≡ proc_breaches soonest tables.now bodied.now (proc_view p.now)) }
+{
+    let returned = result_type(&tables.tags, &p.result);
+    let mut scope = no_scope(alloc);
+    let mut nodes = Vec::new(alloc);
+    let params = check_params(alloc, tables, &mut scope, p.params.as_slice())?;
+    let body = check_body(alloc, tables, returned, &mut scope, &p.body, &mut nodes)?;
+    let Scope {
+        mut slots,
+        visible: _,
+        outer: _,
+    } = scope;
+    add_result(alloc, &mut slots, &p.body, returned, p.close)?;
+    let differs = breach_if(breaks_3(alloc, tables, bodied, p)?, p.at, 3);
+    let pointer = breach_if(breaks_4(tables, p.name.items.as_slice(), returned), p.at, 4);
+    let info = ProcInfo {
+        item: number_of(item)?,
+        params: number_of(p.params.as_slice().len())?,
+        result: returned,
+        slots,
+        nodes: NodeInfos { items: nodes },
+    };
+    Ok((info, sooner(differs, sooner(pointer, sooner(params, body)))))
+}
+
+fn no_scope(alloc: Global) -> Scope
+    ensures { result ≡ no_scope }
+{
+    Scope {
+        slots: SlotInfos {
+            items: Vec::new(alloc),
+        },
+        visible: SlotNumbers {
+            items: Vec::new(alloc),
+        },
+        outer: 0,
+    }
+}
+
+/// Keeps a procedure's information where it has the first body of its name.
+fn keep_bodied<'t>(
+    bodied: &mut Names<'t>,
+    infos: &mut Vec<ProcInfo>,
+    externals: &mut Vec<ProcInfo>,
+    known: &mut Names<'t>,
+    p: &'t ProcItem,
+    info: ProcInfo,
+) -> Result<(), Memory>
+    ensures bodied { OnOk result (bodied.new ≡ with_body bodied.old (proc_view p.now)) }
+    ensures known { OnOk result (known.new ≡ with_prototype known.old (proc_view p.now)) }
+    ensures infos { OnOk result (infos.new.items ≡ infos.old.items ++ chosen (is_some p.now.body && not (has_name bodied.old p.now.name)) info) }
+    ensures externals { OnOk result (externals.new.items ≡ externals.old.items ++ chosen (is_none p.now.body && not (has_name known.old p.now.name)) info) }
+{
+    match &p.body {
+        Some(_) => {
+            if !repeats(bodied, &p.name)? {
+                infos.push(info)?;
+            }
+            Ok(())
+        }
+        None => {
+            if !repeats(known, &p.name)? {
+                externals.push(info)?;
+            }
+            Ok(())
+        }
+    }
+}
+
+/// The procedures of a file by number, and the first rule that one of them breaks.
+#[derive(Drop)]
+pub(crate) struct Procs {
+    pub infos: Vec<ProcInfo>,
+    pub first: Option<Breach>,
+}
+
+/// Checks the procedures of a file.
+#[tactic(auto, using(crate::proofs::ItemRows::procs_breaches_at, crate::proofs::ItemRows::bodied_infos_at, crate::proofs::ItemRows::external_infos_at, crate::proofs::Firsts::sooner_assoc, crate::proofs::Firsts::sooner_left, crate::proofs::Firsts::sooner_right))]
+pub(crate) fn check_procs(
+    alloc: Global,
+    tables: &Tables,
+    procs: &[ProcItem],
+) -> Result<Procs, Memory>
+    ensures first { IfOk result (λ r. r.first ≡ procs_breaches soonest tables.now [] (map proc_view procs.now)) }
+    ensures infos { IfOk result (λ r. r.infos.items
+        ≡ bodied_infos tables.now [] 0 (map proc_view procs.now)
+        ++ external_infos tables.now (with_bodies [] (map proc_view procs.now)) 0 (map proc_view procs.now)) }
+{
+    let mut known = Names::new(alloc);
+    add_bodies(&mut known, procs)?;
+    let mut bodied = Names::new(alloc);
+    let mut infos = Vec::new(alloc);
+    let mut externals = Vec::new(alloc);
+    let mut first = None;
+    for (i, p) in procs.iter().enumerate() {
+        let (info, found) = check_proc(alloc, tables, &bodied, i, p)?;
+        keep_bodied(&mut bodied, &mut infos, &mut externals, &mut known, p, info)?;
+        first = sooner(first, found);
+    }
+    infos.append(&mut externals)?;
+    Ok(Procs { infos, first })
+}
