@@ -1,0 +1,8 @@
+pub mod FlowGraph
+pub mod Fits
+pub mod Parts
+pub mod Edges
+pub mod Numbers
+pub mod Strings
+pub mod GraphOf
+pub mod Tests
