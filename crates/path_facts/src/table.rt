@@ -1,0 +1,64 @@
+ghost use Rattle.std.specs.Prelude.{◌≡◌, ◌<◌, [], length, slice_index_or, IfOk};
+ghost use Rattle.flow_graph.specs.Fits.{IsFlowGraph};
+ghost use Rattle.path_facts.specs.Tables.{facts_in, IsTableOf};
+
+use crate::order::order_of;
+use crate::row::Row;
+use crate::worklist::Worklist;
+use c_tree::Memory;
+use flow_graph::Graph;
+use std::alloc::Global;
+use std::marker::Model;
+
+/// The facts at the places of a procedure.
+#[derive(Drop)]
+pub(crate) struct Table {
+    pub rows: Vec<Row>,
+    pub slots: usize,
+}
+
+impl Model for Table {
+    ghost use Rattle.path_facts.specs.Tables.{FactTable};
+    ghost use Rattle.path_facts.specs.Decoded.{rows_facts, AreWide};
+
+    ghost Value = { FactTable };
+
+    ghost view = { λ t. rows_facts t.slots t.rows.items };
+
+    ghost invariant = { λ t. AreWide t.slots t.rows.items };
+}
+
+impl Table {
+    /// The facts of a procedure: what every path leaves.
+    pub fn of(alloc: Global, graph: &Graph, proc: u32) -> Result<Table, Memory>
+        requires graph { IsFlowGraph graph.now }
+        requires body { proc < graph.now.bodies }
+        ensures { IfOk result (λ t. IsTableOf graph.now proc t) }
+    {
+        let order = order_of(alloc, graph, proc)?;
+        let mut work = Worklist::new(alloc, graph, proc)?;
+        work.settle(graph, proc, order.as_slice());
+        Ok(Table {
+            rows: work.rows,
+            slots: graph.slots(proc).len(),
+        })
+    }
+
+    /// Whether a slot is Empty at a place.
+    pub fn empty(&self, place: u32, slot: u32) -> bool
+        requires place { place < length self.now }
+        requires slot { slot < length (slice_index_or self.now place []) }
+        ensures { result ≡ (facts_in self.now place slot).empty }
+    {
+        self.rows[place as usize].has(2 * slot as usize + 1)
+    }
+
+    /// Whether a slot is Fresh at a place.
+    pub fn fresh(&self, place: u32, slot: u32) -> bool
+        requires place { place < length self.now }
+        requires slot { slot < length (slice_index_or self.now place []) }
+        ensures { result ≡ (facts_in self.now place slot).fresh }
+    {
+        self.rows[place as usize].has(2 * slot as usize + 2)
+    }
+}
