@@ -1,0 +1,9 @@
+pub mod Climb
+pub mod Exact
+pub mod Existence
+pub mod IndexLemmas
+pub mod Lists
+pub mod Numbers
+pub mod Ranks
+pub mod Sizes
+pub mod Whole

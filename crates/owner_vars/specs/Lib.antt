@@ -1,0 +1,3 @@
+pub mod Unknowns
+pub mod Tables
+pub mod Answers

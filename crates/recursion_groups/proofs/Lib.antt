@@ -1,0 +1,4 @@
+pub mod FoundLemmas
+pub mod CallLemmas
+pub mod OrderLemmas
+pub mod Unique

@@ -1,0 +1,16 @@
+//! The call groups of a program: the procedures with bodies, grouped by which call one another, directly or
+//! through others.
+//!
+//! [`groups`] gives them in an order in which a called group stands before its caller's. `specs/Grouping`
+//! defines the groups and their order, of a flow graph alone. Stands on `flow_graph`, and on `c_tree` for want
+//! of memory.
+#![tactic(auto)]
+
+mod build;
+mod found;
+mod list;
+mod order;
+mod reach;
+
+pub use build::groups;
+pub use list::Groups;
