@@ -1,0 +1,9 @@
+pub mod Lists
+pub mod Heap
+pub mod Holds
+pub mod Shapes
+pub mod Runs
+pub mod Wraps
+pub mod Tops
+pub mod Arguments
+pub mod Taken
