@@ -50,7 +50,7 @@ proc_complete ts p (grammar.body vs ws xs ys zs r n o c f ms b brace answer name
       block_complete 200 zs b brace braced low,
     ) refl
 
-proc_shorter : (ts : List Token) (p : Part Procedure) → Proc ts p → length p.rest < length ts
+pub proc_shorter : (ts : List Token) (p : Part Procedure) → Proc ts p → length p.rest < length ts
 proc_shorter ts p (grammar.prototype vs ws xs ys zs as' r n o c m f ms answer name x params y z) =
     let a = answer_shorter vs r answer in let b = next_shorter _ r.rest ws n name in let d = next_shorter _ ws xs o x in
     let e = params_shorter xs ys ms params in let g = next_shorter _ ys zs c y in let h = next_shorter _ zs as' m z in omega arith
@@ -123,7 +123,7 @@ structure_item next ts us d (grammar.forward t n m vs ws xs s is name x) =
     no_brace : (es fs : List Token) (e : Token) → Next (kind.Mark (codes ";")) es e fs → after_mark (codes "{") es ≡ None
     no_brace es fs e n = rw (n.0, n.1) refl
 
-structure_shorter : (ts us : List Token) (d : Option StructDef) → Structure ts d us → length us < length ts
+pub structure_shorter : (ts us : List Token) (d : Option StructDef) → Structure ts d us → length us < length ts
 structure_shorter ts us d (grammar.definition t n o c m vs ws xs ys zs as' s ms is name x from y z) =
     let a = next_shorter _ vs ws n name in let b = next_shorter _ ws xs o x in let e = members_shorter xs ys ms from in
     let f = next_shorter _ ys zs c y in let g = next_shorter _ zs as' m z in omega arith

@@ -38,7 +38,7 @@ declarators_sound (suc n) b ts r e = binding (read_declarator b ts) (λ q. decla
 abbrev AreMember : List Token → Row (List Member) → Type 0
 AreMember ts r = IsMember ts r.items r.rest
 
-member_sound : (ts : List Token) (r : Row (List Member)) → read_member ts ≡ Some r → AreMember ts r
+pub member_sound : (ts : List Token) (r : Row (List Member)) → read_member ts ≡ Some r → AreMember ts r
 member_sound ts r e = binding (read_base ts) member_of r e (λ b base e1.
     binding (declarators (length b.rest) b.tree b.rest) member_closed r e1 (λ m some e2.
     binding (after_mark (codes ";") m.rest) _ r e2 (λ q end made.
@@ -60,7 +60,7 @@ members_sound (suc n) ts r e = binding (read_member ts) (λ q. members_after (me
 abbrev IsStructure : List Token → Row (Option StructDef) → Type 0
 IsStructure ts r = Structure ts r.items r.rest
 
-definition_sound : (t : Token) (ts us vs : List Token) (n o : Token) (s : List ℕ) (r : Row (Option StructDef)) → t.kind ≡ kind.Word (codes "struct")
+pub definition_sound : (t : Token) (ts us vs : List Token) (n o : Token) (s : List ℕ) (r : Row (Option StructDef)) → t.kind ≡ kind.Word (codes "struct")
     → Next (kind.Name s) ts n us → Next (kind.Mark (codes "{")) us o vs → read_definition t s vs ≡ Some r → IsStructure (t ∷ ts) r
 definition_sound t ts us vs n o s r is name opening e = binding (members (length vs) vs) (definition_closed t s) r e (λ m inner e1.
     binding (after_mark (codes "}") m.rest) (definition_ended t s m) r e1 (λ c closing e2.
@@ -80,7 +80,7 @@ type_sound ts p e = binding (read_base ts) (λ b. type_at b (read_star b.rest)) 
 abbrev IsParam : List Token → Declared → Type 0
 IsParam ts q = Param ts q.member q.rest
 
-param_sound : (ts : List Token) (q : Declared) → read_param ts ≡ Some q → IsParam ts q
+pub param_sound : (ts : List Token) (q : Declared) → read_param ts ≡ Some q → IsParam ts q
 param_sound ts q e = binding (read_type ts) param_of q e (λ p type made.
     by_option (after_name p.rest)
     (λ n named. given (IsParam ts) _ q (rw named at made) (grammar.Param.named ts n.rest p n.token n.name (type_sound ts p type) (name_next p.rest n named)))
@@ -162,7 +162,7 @@ named_sound (m ∷ ms) is = by_bool (bytes_eq m.name [])
 abbrev FitsProc : List Token → Part Procedure → Type 0
 FitsProc ts p = Proc ts p × (p.depth ≤ 200)
 
-proc_sound : (ts : List Token) (p : Part Procedure) → read_proc ts ≡ Some p → FitsProc ts p
+pub proc_sound : (ts : List Token) (p : Part Procedure) → read_proc ts ≡ Some p → FitsProc ts p
 proc_sound ts p e = binding (read_head ts) proc_of p e (λ h head rest.
     let f = head_sound ts h head in
     by_option (after_mark (codes ";") h.rest)

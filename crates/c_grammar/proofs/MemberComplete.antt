@@ -55,7 +55,7 @@ member_complete ts us ms (grammar.member vs ws xs b m ns base from x) =
       next_mark _ ws xs m x,
     ) refl
 
-member_shorter : (ts us : List Token) (ms : List Member) → IsMember ts ms us → length us < length ts
+pub member_shorter : (ts us : List Token) (ms : List Member) → IsMember ts ms us → length us < length ts
 member_shorter ts us ms (grammar.member vs ws xs b m ns base from x) =
     let a = base_shorter vs b base in let c = declarators_shorter b.tree b.rest ws ns from in let d = next_shorter _ ws xs m x in omega arith
 
@@ -106,7 +106,7 @@ param_complete ts us m (grammar.Param.unnamed vs p type) end = rw (type_complete
 param_complete ts us m (grammar.Param.named vs ws p n x type next) end =
     rw (type_complete vs p type (name_no_star x p.rest ws n next) (name_ends_consts x p.rest ws n next), next_name x p.rest ws n next) refl
 
-param_shorter : (ts us : List Token) (m : Member) → Param ts m us → length us < length ts
+pub param_shorter : (ts us : List Token) (m : Member) → Param ts m us → length us < length ts
 param_shorter ts us m (grammar.Param.unnamed vs p type) = type_shorter vs p type
 param_shorter ts us m (grammar.Param.named vs ws p n x type next) = let a = type_shorter vs p type in let b = next_shorter _ p.rest ws n next in omega arith
 

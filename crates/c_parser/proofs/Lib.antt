@@ -1,4 +1,9 @@
-pub mod Rows
-pub mod Laws
-pub mod Formed
-pub mod Cut
+pub mod Lookups
+pub mod Loops
+pub mod Stages
+pub mod StatementLoops
+pub mod ItemLoops
+pub mod Paths
+pub mod WholeFile
+pub mod Branches
+pub mod HeldNames

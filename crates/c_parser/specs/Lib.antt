@@ -1,3 +1,4 @@
-pub mod StraightLine
-pub mod FirstText
-pub mod Reading
+pub mod Views
+pub mod Below
+pub mod StmtViews
+pub mod ItemViews

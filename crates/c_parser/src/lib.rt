@@ -1,14 +1,27 @@
-//! The parser of first texts: from the bytes of one straight line of C to its tree.
+//! The parser: from tokens to the one tree that they spell.
 //!
-//! A first text is at most one struct of integer members, and `int main(void)` with a body of
-//! declarations of pointers, assignments and frees, in no branch and no loop, and the return of a
-//! number. `specs/FirstText` says which bytes are one and what tree they have, with every span, and
-//! `specs/StraightLine` what such a tree looks like and what its names and types meet.
-//! `parse_first` gives a tree only where it is that of the bytes, and the tree is formed; that it
-//! refuses no first text is shown by tests alone. Stands on `c_tree`, `sqlite_items` and
-//! `thiserror`.
+//! `c_grammar` says which tokens spell which tree, and has functions on lists that read it. [`parse`] gives what these
+//! read: the one tree of a depth of at most 200, or the place of the first token after which there is none. It looks one
+//! token ahead, reads lists by loops and what is nested by recursion, so its stack is bounded whatever comes. Stands on
+//! `c_tree`, `c_token`, `c_grammar`, `sqlite_items` and `thiserror`.
 #![tactic(auto)]
 
-mod first;
+mod error;
+mod exprs;
+mod file;
+mod items;
+mod locals;
+mod operators;
+mod parts;
+mod simple;
+mod statement_parts;
+mod statements;
+mod tokens;
+mod types;
+mod units;
 
-pub use first::{FirstError, parse_first};
+pub use error::ParseError;
+pub use file::parse;
+
+#[cfg(test)]
+mod tests;

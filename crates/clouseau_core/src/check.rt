@@ -1,11 +1,14 @@
 ghost use Rattle.std.specs.Prelude.{◌≡◌, ◌≤◌, ◌<◌, ◌++◌, [], List, ℕ, IfOk, length, codes};
 ghost use Rattle.std.specs.Io.KnownBytes.{Appends};
-ghost use Rattle.clouseau_core.specs.Report.{status_of, line_on, most_bytes, IsJudged, IsAnswer, IsReported, IsGiven};
+ghost use Rattle.clouseau_core.specs.declared.report.Verdict.{Verdict};
+ghost use Rattle.clouseau_core.specs.Report.{status_of, line_on, refusal_line, most_bytes, IsJudged, IsAnswer, IsReported, IsGiven};
 
+use crate::failure::Failure;
+use crate::lines::{line_on, refusal_line};
 use crate::report::{Refusal, Report, Verdict};
-use crate::straight_line::{Acceptance, accept};
+use crate::source::typed_source;
+use crate::straight_line::{Acceptance, accept, is_straight_line};
 use crate::words::{Words, asked};
-use c_parser::{FirstError, parse_first};
 use c_tree::Memory;
 use io_edge::{Files, ReadError, Sink, read_file, write_all};
 use std::alloc::Global;
@@ -99,41 +102,36 @@ fn answer_to<F: Files>(alloc: Global, words: &Words, files: &mut F) -> Result<An
 {
     let name = match asked(words) {
         Some(name) => name,
-        None => return refused(alloc, Verdict::Usage, b"usage: clouseau check FILE", ""),
+        None => {
+            let line = line_on(alloc, b"usage: clouseau check FILE", "")?;
+            return Ok(on_err(alloc, Verdict::Usage, line));
+        }
     };
     match read_file(alloc, files, name, MOST_BYTES) {
         Ok(bytes) => judge(alloc, bytes.as_slice(), name),
-        Err(ReadError::ReadFault) => refused(alloc, Verdict::ReadFault, b"cannot read ", name),
-        Err(ReadError::TooLong) => {
-            refused(
-                alloc,
-                Verdict::Refused(Refusal::TooLong),
-                b"too long: ",
-                name,
-            )
+        Err(ReadError::ReadFault) => {
+            let line = line_on(alloc, b"cannot read ", name)?;
+            Ok(on_err(alloc, Verdict::ReadFault, line))
         }
+        Err(ReadError::TooLong) => refused(alloc, Refusal::TooLong, b"", name),
         Err(ReadError::Memory) => Err(Memory),
     }
 }
 
 /// The verdict on the bytes of a source.
-fn judge(alloc: Global, bytes: &[u8], name: &str) -> Result<Answer, Memory>
-    requires { length bytes.now ≤ most_bytes }
-    ensures { IfOk result (λ a. IsJudged bytes.now name.now a.verdict a.out.items a.err.items) }
+fn judge(alloc: Global, source: &[u8], name: &str) -> Result<Answer, Memory>
+    requires { length source.now ≤ most_bytes }
+    ensures { IfOk result (λ a. IsJudged source.now name.now a.verdict a.out.items a.err.items) }
 {
-    let tree = match parse_first(alloc, bytes) {
-        Ok(tree) => tree,
-        Err(FirstError::NotBuilt) => {
-            return refused(
-                alloc,
-                Verdict::Refused(Refusal::NotBuilt),
-                b"not built: ",
-                name,
-            );
-        }
-        Err(FirstError::Memory) => return Err(Memory),
+    let typed = match typed_source(alloc, source) {
+        Ok(typed) => typed,
+        Err(Failure::Refused(refusal)) => return refused(alloc, refusal, source, name),
+        Err(Failure::Memory) => return Err(Memory),
     };
-    match accept(alloc, &tree)? {
+    if !is_straight_line(&typed.tree) {
+        return refused(alloc, Refusal::NotBuilt, source, name);
+    }
+    match accept(alloc, &typed.tree)? {
         Some(
             Acceptance {
                 certificate,
@@ -152,16 +150,21 @@ fn judge(alloc: Global, bytes: &[u8], name: &str) -> Result<Answer, Memory>
     }
 }
 
-/// An answer that is one line on `err`.
-fn refused(alloc: Global, verdict: Verdict, front: &[u8], name: &str) -> Result<Answer, Memory>
-    ensures { IfOk result (λ a. (a.verdict ≡ verdict) × (a.out.items ≡ []) × (a.err.items ≡ line_on front.now name.now)) }
+/// The refusal of a source of that name.
+fn refused(alloc: Global, refusal: Refusal, source: &[u8], name: &str) -> Result<Answer, Memory>
+    ensures { IfOk result (λ a. (a.verdict ≡ Verdict.Refused refusal) × (a.out.items ≡ []) × (a.err.items ≡ refusal_line source.now name.now refusal)) }
 {
-    let mut err = Vec::from_slice(alloc, front)?;
-    err.extend_from_slice(name.as_bytes())?;
-    err.extend_from_slice(b"\n")?;
-    Ok(Answer {
+    let line = refusal_line(alloc, refusal, source, name)?;
+    Ok(on_err(alloc, Verdict::Refused(refusal), line))
+}
+
+/// An answer whose text is on `err`.
+fn on_err(alloc: Global, verdict: Verdict, err: Vec<u8>) -> Answer
+    ensures { (result.verdict ≡ verdict) × (result.out.items ≡ []) × (result.err.items ≡ err.items) }
+{
+    Answer {
         verdict,
         out: Vec::new(alloc),
         err,
-    })
+    }
 }

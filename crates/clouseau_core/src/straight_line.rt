@@ -7,8 +7,10 @@
 mod annotate;
 mod certify;
 mod decision;
+mod form;
 mod line;
 mod rules;
 mod search;
 
 pub use decision::{Acceptance, accept};
+pub use form::is_straight_line;

@@ -5,6 +5,14 @@
 #![tactic(auto)]
 
 #[cfg(test)]
+mod facts;
+#[cfg(test)]
 mod first_run;
 #[cfg(test)]
+mod graphs;
+#[cfg(test)]
 mod harness;
+#[cfg(test)]
+mod refusals;
+#[cfg(test)]
+mod type_rules;

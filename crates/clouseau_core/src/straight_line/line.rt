@@ -45,7 +45,8 @@ pub fn statements(tree: &Tree) -> &[Stmt]
     }
 }
 
-fn block(s: &Stmt) -> &[Stmt]
+/// The statements of a block; none where it is another statement.
+pub fn block(s: &Stmt) -> &[Stmt]
     ensures { stmts_view result.now ≡ block_of (stmt_view s.now) }
 {
     match &s.form {
