@@ -11,8 +11,12 @@ mod first_run;
 #[cfg(test)]
 mod graphs;
 #[cfg(test)]
+mod groups;
+#[cfg(test)]
 mod harness;
 #[cfg(test)]
 mod refusals;
+#[cfg(test)]
+mod runs;
 #[cfg(test)]
 mod type_rules;

@@ -1,0 +1,294 @@
+// Call groups of sources, and the numbers of their unknowns.
+ghost use Rattle.std.specs.Prelude.{◌<◌};
+
+use crate::harness::graph_of;
+use c_tree::Memory;
+use c_types::LimitKind;
+use flow_graph::Graph;
+use owner_vars::{NumberError, Numbering, number, number_root};
+use recursion_groups::groups;
+use std::alloc::Global;
+use std::process::Abort;
+use std::test::Fail;
+
+/// A source and the procedures of its groups, in their order.
+struct Grouped {
+    source: &'static str,
+    groups: &'static [&'static [u32]],
+}
+
+/// Two calls of one procedure.
+const TWICE: &str =
+    "int *id(int *p) { return p; } int main(void) { int *a; int *b; int *c; a = malloc(sizeof(int)); b = id(a); c = id(b); free(b); return 0; }";
+
+/// Two procedures that call one another.
+const MUTUAL: &str =
+    "struct node { int v; struct node *next; }; void odd(struct node *p); void even(struct node *p) { struct node *q; if (p == NULL) return; q = p->next; free(p); odd(q); } void odd(struct node *p) { struct node *q; if (p == NULL) return; q = p->next; free(p); even(q); } int main(void) { even(NULL); return 0; }";
+
+const GROUPED: [Grouped; 9] = [
+    Grouped {
+        source: "int main(void) { return 0; }",
+        groups: &[&[0]],
+    },
+    Grouped {
+        source: TWICE,
+        groups: &[&[0], &[1]],
+    },
+    Grouped {
+        source: MUTUAL,
+        groups: &[&[0, 1], &[2]],
+    },
+    // One that calls itself.
+    Grouped {
+        source: "int f(int n) { if (n == 0) return 0; return f(n - 1); } int main(void) { return f(3); }",
+        groups: &[&[0], &[1]],
+    },
+    // Two that are ready together, in both orders.
+    Grouped {
+        source: "int a(void) { return 0; } int b(void) { return 0; } int main(void) { return b() + a(); }",
+        groups: &[&[0], &[1], &[2]],
+    },
+    Grouped {
+        source: "int b(void); int a(void); int main(void) { return a() + b(); } int b(void) { return 0; } int a(void) { return 0; }",
+        groups: &[&[1], &[2], &[0]],
+    },
+    // The first waits for a later one.
+    Grouped {
+        source: "int c(void); int a(void) { return c(); } int b(void) { return 0; } int c(void) { return 0; } int main(void) { return a() + b(); }",
+        groups: &[&[1], &[2], &[0], &[3]],
+    },
+    Grouped {
+        source: "int d(void); int a(void) { return d(); } int b(void) { return 0; } int c(void) { return 0; } int d(void) { return a(); } int main(void) { return 0; }",
+        groups: &[&[0, 3], &[1], &[2], &[4]],
+    },
+    // An external procedure is in no group.
+    Grouped {
+        source: "int put(int n); int main(void) { return put(1); }",
+        groups: &[&[0]],
+    },
+];
+
+/// Whom procedures of one name and numbers from 0 call: the one before, the one after, or the one after in
+/// a ring.
+#[derive(Clone, Copy, PartialEq, Eq)]
+enum Chain {
+    Down,
+    Up,
+    Ring,
+}
+
+/// Whom a procedure of a chain calls.
+fn callee(chain: Chain, proc: u32, count: u32) -> Option<u32> {
+    match chain {
+        Chain::Down => proc.checked_sub(1),
+        Chain::Up | Chain::Ring if proc < count.saturating_sub(1) => Some(proc.saturating_add(1)),
+        Chain::Up => None,
+        Chain::Ring => Some(0),
+    }
+}
+
+/// A source of so many procedures, of which `main` calls the one that leads to all.
+fn chain_of(alloc: Global, chain: Chain, count: u32) -> Result<String, Fail> {
+    let mut source = String::new(alloc);
+    for proc in 0..count {
+        source.push_str(format!(in alloc; "int f{proc}(void);\n")?.as_str())?;
+    }
+    for proc in 0..count {
+        let text = match callee(chain, proc, count) {
+            Some(called) => format!(in alloc; "int f{proc}(void) {{ return f{called}(); }}\n")?,
+            None => format!(in alloc; "int f{proc}(void) {{ return 0; }}\n")?,
+        };
+        source.push_str(text.as_str())?;
+    }
+    let first = if chain == Chain::Down {
+        count.saturating_sub(1)
+    } else {
+        0
+    };
+    source.push_str(format!(in alloc; "int main(void) {{ return f{first}(); }}\n")?.as_str())?;
+    Ok(source)
+}
+
+/// Compares the groups of a chain that is no ring.
+fn check_chain(rt: &impl Abort, alloc: Global, chain: Chain, count: u32) -> Result<(), Fail> {
+    let source = chain_of(alloc, chain, count)?;
+    let graph = graph_of(alloc, source.as_bytes())?;
+    let found = groups(alloc, &graph)?;
+    assert_eq!(rt; found.items.len() as u64, u64::from(count) + 1);
+    for (place, group) in found.items.iter().enumerate() {
+        let proc = match chain {
+            Chain::Up if place < count as usize => count as usize - 1 - place,
+            _ => place,
+        };
+        assert_eq!(rt; group.items.as_slice(), [proc as u32].as_slice());
+    }
+    Ok(())
+}
+
+#[test]
+fn groups_are_as_worked_out(rt: HostRuntime) -> Result<(), Fail> {
+    for grouped in &GROUPED {
+        let graph = graph_of(rt.alloc(), grouped.source.as_bytes())?;
+        let found = groups(rt.alloc(), &graph)?;
+        assert_eq!(rt;
+            found.items.len(),
+            grouped.groups.len(),
+            "{}",
+            grouped.source
+        );
+        for (group, procs) in found.items.iter().zip(grouped.groups) {
+            assert_eq!(rt; group.items.as_slice(), *procs, "{}", grouped.source);
+        }
+    }
+    check_chain(&rt, rt.alloc(), Chain::Down, 1_000)?;
+    check_chain(&rt, rt.alloc(), Chain::Up, 1_000)?;
+    let ring = chain_of(rt.alloc(), Chain::Ring, 200)?;
+    let graph = graph_of(rt.alloc(), ring.as_bytes())?;
+    let found = groups(rt.alloc(), &graph)?;
+    assert_eq!(rt; found.items.len(), 2);
+    assert_eq!(rt; found.items[1].items.as_slice(), [200].as_slice());
+    assert_eq!(rt; found.items[0].items.len(), 200);
+    for (proc, member) in found.items[0].items.iter().enumerate() {
+        assert_eq!(rt; *member as usize, proc);
+    }
+    Ok(())
+}
+
+/// A source, the group of a procedure alone, and how many unknowns it has.
+struct Counted {
+    source: &'static str,
+    proc: u32,
+    count: u32,
+}
+
+const FREED: &str = "int main(void) { int *p; p = malloc(sizeof(int)); free(p); return 0; }";
+
+const LEAK: &str = "int main(void) { int *p; p = malloc(sizeof(int)); return 0; }";
+
+const HANDED: &str =
+    "int *id(int *p) { return p; } int main(void) { int *a; a = malloc(sizeof(int)); a = id(a); free(a); return 0; }";
+
+const MADE: &str =
+    "int *mk(void) { int *p; p = malloc(sizeof(int)); return p; } int main(void) { int *q; q = mk(); return 0; }";
+
+const BOX: &str =
+    "struct box { char *s; }; int main(void) { struct box *a = malloc(sizeof(struct box)); char *t = malloc(4); char *u; a->s = t; u = a->s; free(u); free(a); return 0; }";
+
+const COUNTED: [Counted; 7] = [
+    Counted {
+        source: FREED,
+        proc: 0,
+        count: 7,
+    },
+    Counted {
+        source: LEAK,
+        proc: 0,
+        count: 6,
+    },
+    Counted {
+        source: HANDED,
+        proc: 0,
+        count: 8,
+    },
+    Counted {
+        source: HANDED,
+        proc: 1,
+        count: 20,
+    },
+    Counted {
+        source: MADE,
+        proc: 0,
+        count: 11,
+    },
+    Counted {
+        source: MADE,
+        proc: 1,
+        count: 7,
+    },
+    Counted {
+        source: BOX,
+        proc: 0,
+        count: 57,
+    },
+];
+
+/// The numbers of the unknowns of a group of one procedure.
+fn number_one(alloc: Global, graph: &Graph, proc: u32) -> Result<Numbering, NumberError>
+    requires { proc < graph.now.bodies }
+{
+    number(alloc, graph, &[proc])
+}
+
+/// A body of so many pointers.
+fn pointers_of(alloc: Global, count: u32) -> Result<String, Fail> {
+    let mut source = String::from_str(alloc, "int main(void) { ")?;
+    for pointer in 0..count {
+        source.push_str(format!(in alloc; "int *p{pointer}; ")?.as_str())?;
+    }
+    source.push_str("return 0; }")?;
+    Ok(source)
+}
+
+/// How many unknowns a body of so many pointers has, or how many are too many.
+const MANY: [(u32, Result<u32, u64>); 3] = [
+    (2_046, Ok(4_194_300)),
+    (2_894, Ok(8_386_812)),
+    (2_895, Err(8_392_605)),
+];
+
+/// A source, the first procedure of its second group where there is one (that of the first is 0), and how many
+/// unknowns the root has.
+const ROOTS: [(&str, Option<u32>, u32); 4] = [
+    (FREED, None, 0),
+    (HANDED, Some(1), 2),
+    (MADE, Some(1), 1),
+    (MUTUAL, Some(2), 2),
+];
+
+/// How many unknowns the root has.
+fn root_count(alloc: Global, graph: &Graph, second: Option<u32>) -> Result<u32, Memory>
+    requires { 0 < graph.now.bodies }
+{
+    match second {
+        Some(second) if 0 < second && second < graph.bodies() => {
+            Ok(number_root(alloc, graph, &[0, second])?.count())
+        }
+        _ => Ok(number_root(alloc, graph, &[0])?.count()),
+    }
+}
+
+#[test]
+fn unknowns_are_as_worked_out(rt: HostRuntime) -> Result<(), Fail> {
+    for counted in &COUNTED {
+        let graph = graph_of(rt.alloc(), counted.source.as_bytes())?;
+        assert!(rt; counted.proc < graph.bodies());
+        let numbers = number_one(rt.alloc(), &graph, counted.proc)?;
+        assert_eq!(rt; numbers.count(), counted.count, "{}", counted.source);
+    }
+    for (source, second, count) in &ROOTS {
+        let graph = graph_of(rt.alloc(), source.as_bytes())?;
+        assert!(rt; 0 < graph.bodies());
+        assert_eq!(rt;
+            root_count(rt.alloc(), &graph, *second)?,
+            *count,
+            "root of {source}"
+        );
+    }
+    for (pointers, count) in &MANY {
+        let source = pointers_of(rt.alloc(), *pointers)?;
+        let graph = graph_of(rt.alloc(), source.as_bytes())?;
+        assert!(rt; 0 < graph.bodies());
+        let found = match number_one(rt.alloc(), &graph, 0) {
+            Ok(numbers) => Ok(numbers.count()),
+            Err(
+                NumberError::Limit {
+                    kind: LimitKind::Unknowns,
+                    count,
+                },
+            ) => Err(count),
+            Err(_) => Err(0),
+        };
+        assert_eq!(rt; found, *count, "{pointers} pointers");
+    }
+    Ok(())
+}
