@@ -1,17 +1,12 @@
 -- Definitions over rows, read at an index.
 use Rattle.std.proofs.Common.{◌≡◌, ℕ, ◌+◌, ◌<◌, List, Option, Some, None, length, get_or, drop, if◌then◌else◌, bytes_eq, refl, add-one, drop-cons}
 use Rattle.c_types.specs.declared.infos.MemberInfo.{MemberInfo}
-use Rattle.c_types.specs.declared.infos.SlotInfo.{SlotInfo}
-use Rattle.c_types.specs.Scopes.{last_named, or_else, is_named}
+use Rattle.c_types.specs.Scopes.{or_else}
 use Rattle.c_types.specs.Exprs.{member_from}
 
 pub member_from_at : (n : ℕ) (ms : List MemberInfo) (f : List ℕ) (i : ℕ) (d : MemberInfo) → i < length ms
     → member_from n (drop i ms) f ≡ (if bytes_eq (get_or ms i d).name f then Some (n, (get_or ms i d).kind) else member_from (n + 1) (drop (i + 1) ms) f)
 member_from_at n ms f i d h = rw (add-one i, drop-cons ms i d h) refl
-
-pub last_named_at : (slots : List SlotInfo) (is : List ℕ) (x : List ℕ) (i : ℕ) (d : ℕ) → i < length is
-    → last_named slots (drop i is) x ≡ or_else (last_named slots (drop (i + 1) is) x) (if is_named slots (get_or is i d) x then Some (get_or is i d) else None)
-last_named_at slots is x i d h = rw (add-one i, drop-cons is i d h) refl
 
 pub or_else_assoc : (a b c : Option ℕ) → or_else (or_else a b) c ≡ or_else a (or_else b c)
 or_else_assoc None b c = refl

@@ -6,3 +6,4 @@ pub mod Scopes
 pub mod Exprs
 pub mod Stmts
 pub mod Items
+pub mod Fits

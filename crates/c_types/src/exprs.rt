@@ -1,9 +1,11 @@
 ghost use Rattle.std.specs.Prelude.{◌≡◌, ◌<◌, [], ◌∷◌, ◌++◌, ◌||◌, ◌&&◌, not, length, slice_get, slice_set, IfOk, OnOk, is_none, option_map};
 ghost use Rattle.c_tree.specs.View.{expr_view, exprs_view};
-ghost use Rattle.c_types.specs.Breaches.{soonest};
+ghost use Rattle.c_tree.specs.Plain.{call, arrow, not_of, neg};
+ghost use Rattle.c_types.specs.Breaches.{soonest, sooner, breach_if};
 ghost use Rattle.c_types.specs.declared.kinds.Wanted.TheVariants.{Value};
-ghost use Rattle.c_types.specs.Types.{of_type, type_as, element_type};
-ghost use Rattle.c_types.specs.Exprs.{operand_of, breaches, infos, unit_type, breaks_14, breaks_14_count, cast_undefined, unit_undefined, cast_differs, is_one, is_misfit, misfits, args_breaches, args_infos, is_untyped, type_undefined, wants_value, member_of};
+ghost use Rattle.c_types.specs.Types.{of_type, type_as, element_type, breaks_9, binary_rule, breaks_binary};
+ghost use Rattle.c_types.specs.Scopes.{slot_in, kind_in};
+ghost use Rattle.c_types.specs.Exprs.{operand_of, breaches, infos, unit_type, breaks_6, breaks_14, breaks_14_count, breaks_19, cast_undefined, unit_undefined, cast_differs, is_one, is_misfit, misfits, args_breaches, args_infos, is_untyped, type_undefined, wants_value};
 
 use crate::infos::NodeInfo;
 use crate::kinds::{Operand, SlotType, Wanted, pointer_only, same_type};
@@ -12,9 +14,9 @@ use crate::rules::{
     Breach, binary_rule, breach_if, breaks_9, breaks_12, breaks_13, breaks_binary, element_type,
     sooner, wanted_by,
 };
-use crate::scope::Scope;
+use crate::scope::OpenScopes;
 use crate::tables::{Tables, slot_type};
-use c_tree::{Expr, ExprForm, Memory, TypeName, Unit};
+use c_tree::{BinaryOp, Expr, ExprForm, Memory, Name, Span, TypeName, Unit};
 
 /// What the rules see of an expression, and the first rule that is broken in it.
 #[derive(Clone, Copy)]
@@ -24,7 +26,7 @@ pub(crate) struct Seen {
 }
 
 /// The type of an allocation: what its unit says, and `char *` without one.
-fn unit_type(tables: &Tables, scope: &Scope, unit: &Option<Unit>) -> Option<SlotType>
+fn unit_type(tables: &Tables, scope: &OpenScopes, unit: &Option<Unit>) -> Option<SlotType>
     ensures { result ≡ unit_type tables.now scope.now unit.now }
 {
     match unit {
@@ -110,7 +112,7 @@ fn breaks_14_count(kind: Option<SlotType>, zeroed: bool, count: &Expr, seen: Ope
 }
 
 /// What the rules see of an expression.
-pub(crate) fn operand_of(tables: &Tables, scope: &Scope, e: &Expr) -> Operand
+pub(crate) fn operand_of(tables: &Tables, scope: &OpenScopes, e: &Expr) -> Operand
     ensures { result ≡ operand_of tables.now scope.now (expr_view e.now) }
 {
     match &e.form {
@@ -222,7 +224,7 @@ fn is_misfit(param: Option<SlotType>, argument: Operand) -> bool
 #[tactic(auto, using(crate::proofs::Walks::misfits_at, crate::proofs::Walks::args_breaches_at, crate::proofs::Walks::args_infos_at, crate::proofs::Firsts::sooner_assoc, crate::proofs::Firsts::sooner_left, crate::proofs::Firsts::sooner_right))]
 fn check_args(
     tables: &Tables,
-    scope: &Scope,
+    scope: &OpenScopes,
     params: &[SlotType],
     es: &[Expr],
     nodes: &mut Vec<NodeInfo>,
@@ -243,11 +245,133 @@ fn check_args(
     Ok(Args { misfit, first })
 }
 
-/// Notes a node of that operand, and checks the expression below it, of which something else is wanted.
+/// Checks an expression that nothing can be broken in.
+fn check_leaf(wanted: Wanted, operand: Operand, nodes: &mut Vec<NodeInfo>) -> Result<Seen, Memory>
+    ensures seen { IfOk result (λ seen. seen ≡ record { operand = operand; first = None }) }
+    ensures nodes { OnOk result (nodes.new.items ≡ nodes.old.items ++ record { kind = type_as wanted operand; refers = None } ∷ []) }
+{
+    note(nodes, wanted, operand, None)?;
+    Ok(Seen {
+        operand,
+        first: None,
+    })
+}
+
+fn check_null(wanted: Wanted, at: Span, nodes: &mut Vec<NodeInfo>) -> Result<Seen, Memory>
+    ensures operand { IfOk result (λ seen. seen.operand ≡ Operand.Null) }
+    ensures first { IfOk result (λ seen. seen.first ≡ breach_if soonest (breaks_19 wanted) at 19) }
+    ensures nodes { OnOk result (nodes.new.items ≡ nodes.old.items ++ record { kind = type_as wanted Operand.Null; refers = None } ∷ []) }
+{
+    note(nodes, wanted, Operand::Null, None)?;
+    Ok(Seen {
+        operand: Operand::Null,
+        first: breach_if(wanted.pointer().is_none(), at, 19),
+    })
+}
+
+fn check_name(
+    scope: &OpenScopes,
+    wanted: Wanted,
+    at: Span,
+    x: &Name,
+    nodes: &mut Vec<NodeInfo>,
+) -> Result<Seen, Memory>
+    ensures operand { IfOk result (λ seen. seen.operand ≡ of_type (kind_in scope.now x.now)) }
+    ensures first { IfOk result (λ seen. seen.first ≡ breach_if soonest (breaks_6 scope.now x.now) at 6) }
+    ensures nodes { OnOk result (nodes.new.items ≡ nodes.old.items
+        ++ record { kind = type_as wanted (of_type (kind_in scope.now x.now)); refers = slot_in scope.now x.now } ∷ []) }
+{
+    let slot = scope.slot_in(x.items.as_slice());
+    let operand = Operand::of_type(scope.kind_in(x.items.as_slice()));
+    note(nodes, wanted, operand, slot)?;
+    Ok(Seen {
+        operand,
+        first: breach_if(slot.is_none(), at, 6),
+    })
+}
+
+/// Checks a call: its name, its arguments, and whether it has the value that is wanted.
+#[cycle(check)]
+fn check_call(
+    tables: &Tables,
+    scope: &OpenScopes,
+    wanted: Wanted,
+    at: Span,
+    f: &Name,
+    es: &[Expr],
+    nodes: &mut Vec<NodeInfo>,
+) -> Result<Seen, Memory>
+    ensures operand { IfOk result (λ seen. seen.operand ≡ operand_of tables.now scope.now (call at f.now (exprs_view es.now))) }
+    ensures first { IfOk result (λ seen. seen.first ≡ breaches soonest tables.now scope.now wanted (call at f.now (exprs_view es.now))) }
+    ensures nodes { OnOk result (nodes.new.items ≡ nodes.old.items ++ infos tables.now scope.now wanted (call at f.now (exprs_view es.now))) }
+{
+    let name = f.items.as_slice();
+    let callee = tables.callee(name);
+    let operand = Operand::of_type(callee.result);
+    note(nodes, wanted, operand, tables.procs.number(name))?;
+    let args = check_args(tables, scope, callee.params, es, nodes)?;
+    let unknown = breach_if(!callee.known, at, 6);
+    let misfit = breach_if(callee.known && args.misfit, at, 7);
+    let void = breach_if(breaks_18(wanted, callee.known, callee.result), at, 18);
+    Ok(Seen {
+        operand,
+        first: sooner(unknown, sooner(misfit, sooner(void, args.first))),
+    })
+}
+
+/// What an allocation is besides its count.
+#[derive(Clone, Copy)]
+pub(crate) struct Allocated {
+    pub kind: Option<SlotType>,
+    /// Whether it is `calloc`.
+    pub zeroed: bool,
+    /// Whether its cast or its unit breaks the rule.
+    pub broken: bool,
+}
+
+fn made(
+    tables: &Tables,
+    scope: &OpenScopes,
+    cast: &Option<TypeName>,
+    zeroed: bool,
+    unit: &Option<Unit>,
+) -> Allocated
+    ensures kind { result.kind ≡ unit_type tables.now scope.now unit.now }
+    ensures zeroed { result.zeroed ≡ zeroed }
+    ensures broken { result.broken ≡ breaks_14 tables.now (unit_type tables.now scope.now unit.now) cast.now unit.now }
+{
+    let kind = unit_type(tables, scope, unit);
+    Allocated {
+        kind,
+        zeroed,
+        broken: breaks_14(tables, kind, cast, unit),
+    }
+}
+
+/// Checks an allocation without a count.
+fn check_new(
+    wanted: Wanted,
+    at: Span,
+    made: Allocated,
+    nodes: &mut Vec<NodeInfo>,
+) -> Result<Seen, Memory>
+    ensures operand { IfOk result (λ seen. seen.operand ≡ of_type made.kind) }
+    ensures first { IfOk result (λ seen. seen.first ≡ breach_if soonest made.broken at 14) }
+    ensures nodes { OnOk result (nodes.new.items ≡ nodes.old.items ++ record { kind = type_as wanted (of_type made.kind); refers = None } ∷ []) }
+{
+    let operand = Operand::of_type(made.kind);
+    note(nodes, wanted, operand, None)?;
+    Ok(Seen {
+        operand,
+        first: breach_if(made.broken, at, 14),
+    })
+}
+
+/// Notes a node of that operand, and checks the expression below it.
 #[cycle(check)]
 fn check_operand(
     tables: &Tables,
-    scope: &Scope,
+    scope: &OpenScopes,
     wanted: Wanted,
     operand: Operand,
     below: Wanted,
@@ -263,12 +387,69 @@ fn check_operand(
     check_expr(tables, scope, below, e, nodes)
 }
 
+/// Checks an allocation and its count.
+#[cycle(check)]
+fn check_counted(
+    tables: &Tables,
+    scope: &OpenScopes,
+    wanted: Wanted,
+    at: Span,
+    made: Allocated,
+    count: &Expr,
+    nodes: &mut Vec<NodeInfo>,
+) -> Result<Seen, Memory>
+    ensures operand { IfOk result (λ seen. seen.operand ≡ of_type made.kind) }
+    ensures first { IfOk result (λ seen. seen.first ≡ sooner
+        (breach_if soonest (made.broken || breaks_14_count made.kind made.zeroed (expr_view count.now) (operand_of tables.now scope.now (expr_view count.now))) at 14)
+        (breaches soonest tables.now scope.now Value (expr_view count.now))) }
+    ensures nodes { OnOk result (nodes.new.items ≡ nodes.old.items
+        ++ (record { kind = type_as wanted (of_type made.kind); refers = None } ∷ infos tables.now scope.now Value (expr_view count.now))) }
+{
+    let operand = Operand::of_type(made.kind);
+    let seen = check_operand(tables, scope, wanted, operand, Wanted::Value, count, nodes)?;
+    let counted = breaks_14_count(made.kind, made.zeroed, count, seen.operand);
+    let own = breach_if(either(made.broken, counted), at, 14);
+    Ok(Seen {
+        operand,
+        first: sooner(own, seen.first),
+    })
+}
+
+/// Checks an arrow over a base.
+#[cycle(check)]
+#[tactic(auto, using(crate::proofs::Walks::set_noted, crate::proofs::Walks::length_noted))]
+fn check_arrow(
+    tables: &Tables,
+    scope: &OpenScopes,
+    wanted: Wanted,
+    at: Span,
+    base: &Expr,
+    name: &Name,
+    nodes: &mut Vec<NodeInfo>,
+) -> Result<Seen, Memory>
+    ensures operand { IfOk result (λ seen. seen.operand ≡ operand_of tables.now scope.now (arrow at (expr_view base.now) name.now)) }
+    ensures first { IfOk result (λ seen. seen.first ≡ breaches soonest tables.now scope.now wanted (arrow at (expr_view base.now) name.now)) }
+    ensures nodes { OnOk result (nodes.new.items ≡ nodes.old.items ++ infos tables.now scope.now wanted (arrow at (expr_view base.now) name.now)) }
+{
+    let place = nodes.as_slice().len();
+    note(nodes, wanted, Operand::Untyped, None)?;
+    let base = check_expr(tables, scope, Wanted::Value, base, nodes)?;
+    let member = tables.member_of(base.operand, name.items.as_slice());
+    let operand = arrow_operand(member);
+    note_at(nodes, place, wanted, operand, arrow_refers(member)?);
+    let own = breach_if(breaks_8(base.operand, member), at, 8);
+    Ok(Seen {
+        operand,
+        first: sooner(own, base.first),
+    })
+}
+
 /// Notes an element, and checks the base of its index.
 #[cycle(check)]
 #[tactic(auto, using(crate::proofs::Walks::set_noted, crate::proofs::Walks::length_noted))]
 fn check_element(
     tables: &Tables,
-    scope: &Scope,
+    scope: &OpenScopes,
     wanted: Wanted,
     base: &Expr,
     nodes: &mut Vec<NodeInfo>,
@@ -287,38 +468,84 @@ fn check_element(
     Ok(seen)
 }
 
-/// Notes an arrow, and checks its base.
+/// An index over a base.
+fn indexed(at: Span, base: Seen, index: Seen) -> Seen
+    ensures { result ≡ record {
+      operand = of_type (element_type base.operand);
+      first = sooner (breach_if soonest (breaks_9 base.operand index.operand) at 9) (sooner base.first index.first);
+    } }
+{
+    let own = breach_if(breaks_9(base.operand, index.operand), at, 9);
+    Seen {
+        operand: Operand::of_type(element_type(base.operand)),
+        first: sooner(own, sooner(base.first, index.first)),
+    }
+}
+
 #[cycle(check)]
-#[tactic(auto, using(crate::proofs::Walks::set_noted, crate::proofs::Walks::length_noted))]
-fn check_arrow(
+fn check_not(
     tables: &Tables,
-    scope: &Scope,
+    scope: &OpenScopes,
     wanted: Wanted,
-    base: &Expr,
-    name: &[u8],
+    at: Span,
+    e: &Expr,
     nodes: &mut Vec<NodeInfo>,
 ) -> Result<Seen, Memory>
-    ensures operand { IfOk result (λ seen. seen.operand ≡ operand_of tables.now scope.now (expr_view base.now)) }
-    ensures first { IfOk result (λ seen. seen.first ≡ breaches soonest tables.now scope.now Value (expr_view base.now)) }
-    ensures nodes { OnOk result (let member = member_of tables.now (operand_of tables.now scope.now (expr_view base.now)) name.now in
-        nodes.new.items ≡ nodes.old.items
-        ++ (record { kind = type_as wanted (of_type (option_map (λ m. m.1) member)); refers = option_map (λ m. m.0) member }
-        ∷ infos tables.now scope.now Value (expr_view base.now))) }
+    ensures operand { IfOk result (λ seen. seen.operand ≡ operand_of tables.now scope.now (not_of at (expr_view e.now))) }
+    ensures first { IfOk result (λ seen. seen.first ≡ breaches soonest tables.now scope.now wanted (not_of at (expr_view e.now))) }
+    ensures nodes { OnOk result (nodes.new.items ≡ nodes.old.items ++ infos tables.now scope.now wanted (not_of at (expr_view e.now))) }
 {
-    let place = nodes.as_slice().len();
-    note(nodes, wanted, Operand::Untyped, None)?;
-    let seen = check_expr(tables, scope, Wanted::Value, base, nodes)?;
-    let member = tables.member_of(seen.operand, name);
-    let refers = arrow_refers(member)?;
-    note_at(nodes, place, wanted, arrow_operand(member), refers);
-    Ok(seen)
+    let operand = Operand::Typed(SlotType::Int);
+    let seen = check_operand(tables, scope, wanted, operand, Wanted::Value, e, nodes)?;
+    let own = breach_if(breaks_12(seen.operand), at, 12);
+    Ok(Seen {
+        operand,
+        first: sooner(own, seen.first),
+    })
+}
+
+#[cycle(check)]
+fn check_neg(
+    tables: &Tables,
+    scope: &OpenScopes,
+    wanted: Wanted,
+    at: Span,
+    e: &Expr,
+    nodes: &mut Vec<NodeInfo>,
+) -> Result<Seen, Memory>
+    ensures operand { IfOk result (λ seen. seen.operand ≡ operand_of tables.now scope.now (neg at (expr_view e.now))) }
+    ensures first { IfOk result (λ seen. seen.first ≡ breaches soonest tables.now scope.now wanted (neg at (expr_view e.now))) }
+    ensures nodes { OnOk result (nodes.new.items ≡ nodes.old.items ++ infos tables.now scope.now wanted (neg at (expr_view e.now))) }
+{
+    let operand = Operand::Typed(SlotType::Int);
+    let seen = check_operand(tables, scope, wanted, operand, Wanted::Value, e, nodes)?;
+    let own = breach_if(seen.operand.is_no_integer(), at, 10);
+    Ok(Seen {
+        operand,
+        first: sooner(own, seen.first),
+    })
+}
+
+/// An operator between two operands.
+fn joined(op: BinaryOp, at: Span, left: Seen, right: Seen) -> Seen
+    ensures { result ≡ record {
+      operand = Operand.Typed SlotType.Int;
+      first = sooner (breach_if soonest (breaks_binary (binary_rule op) left.operand right.operand) at (binary_rule op)) (sooner left.first right.first);
+    } }
+{
+    let rule = binary_rule(op);
+    let own = breach_if(breaks_binary(rule, left.operand, right.operand), at, rule);
+    Seen {
+        operand: Operand::Typed(SlotType::Int),
+        first: sooner(own, sooner(left.first, right.first)),
+    }
 }
 
 /// Checks an expression of which that is wanted, and notes its nodes in preorder.
 #[cycle(check)]
 pub(crate) fn check_expr(
     tables: &Tables,
-    scope: &Scope,
+    scope: &OpenScopes,
     wanted: Wanted,
     e: &Expr,
     nodes: &mut Vec<NodeInfo>,
@@ -328,164 +555,40 @@ pub(crate) fn check_expr(
     ensures nodes { OnOk result (nodes.new.items ≡ nodes.old.items ++ infos tables.now scope.now wanted (expr_view e.now)) }
 {
     match &e.form {
-        ExprForm::Num(n) => {
-            let operand = Operand::of_number(*n);
-            note(nodes, wanted, operand, None)?;
-            Ok(Seen {
-                operand,
-                first: None,
-            })
-        }
-        ExprForm::Text(_) => {
-            let operand = Operand::Typed(SlotType::CharPtr);
-            note(nodes, wanted, operand, None)?;
-            Ok(Seen {
-                operand,
-                first: None,
-            })
-        }
-        ExprForm::Null => {
-            note(nodes, wanted, Operand::Null, None)?;
-            let first = breach_if(wanted.pointer().is_none(), e.at, 19);
-            Ok(Seen {
-                operand: Operand::Null,
-                first,
-            })
-        }
-        ExprForm::Name(x) => {
-            let slot = scope.slot_in(x.items.as_slice());
-            let operand = Operand::of_type(scope.kind_in(x.items.as_slice()));
-            note(nodes, wanted, operand, slot)?;
-            let first = breach_if(slot.is_none(), e.at, 6);
-            Ok(Seen { operand, first })
-        }
+        ExprForm::Num(n) => check_leaf(wanted, Operand::of_number(*n), nodes),
+        ExprForm::Text(_) => check_leaf(wanted, Operand::Typed(SlotType::CharPtr), nodes),
+        ExprForm::Null => check_null(wanted, e.at, nodes),
+        ExprForm::Name(x) => check_name(scope, wanted, e.at, x, nodes),
         ExprForm::Call(f, args) => {
-            let callee = tables.callee(f.items.as_slice());
-            let operand = Operand::of_type(callee.result);
-            note(
-                nodes,
-                wanted,
-                operand,
-                tables.procs.number(f.items.as_slice()),
-            )?;
-            let args = check_args(tables, scope, callee.params, args.as_slice(), nodes)?;
-            let unknown = breach_if(!callee.known, e.at, 6);
-            let misfit = breach_if(callee.known && args.misfit, e.at, 7);
-            let void = breach_if(breaks_18(wanted, callee.known, callee.result), e.at, 18);
-            let first = sooner(unknown, sooner(misfit, sooner(void, args.first)));
-            Ok(Seen { operand, first })
+            check_call(tables, scope, wanted, e.at, f, args.as_slice(), nodes)
         }
         ExprForm::New(new) => match &new.count {
             None => {
-                let kind = unit_type(tables, scope, &new.unit);
-                let operand = Operand::of_type(kind);
-                note(nodes, wanted, operand, None)?;
-                let broken = breaks_14(tables, kind, &new.cast, &new.unit);
-                let first = breach_if(broken, e.at, 14);
-                Ok(Seen { operand, first })
+                let made = made(tables, scope, &new.cast, new.zeroed, &new.unit);
+                check_new(wanted, e.at, made, nodes)
             }
             Some(count) => {
-                let kind = unit_type(tables, scope, &new.unit);
-                let operand = Operand::of_type(kind);
-                let seen = check_operand(
-                    tables,
-                    scope,
-                    wanted,
-                    operand,
-                    Wanted::Value,
-                    count.get(),
-                    nodes,
-                )?;
-                let shape = breaks_14(tables, kind, &new.cast, &new.unit);
-                let counted = breaks_14_count(kind, new.zeroed, count.get(), seen.operand);
-                let first = sooner(breach_if(either(shape, counted), e.at, 14), seen.first);
-                Ok(Seen { operand, first })
+                let made = made(tables, scope, &new.cast, new.zeroed, &new.unit);
+                check_counted(tables, scope, wanted, e.at, made, count.get(), nodes)
             }
         },
         ExprForm::Arrow(base, name) => {
-            let base = check_arrow(
-                tables,
-                scope,
-                wanted,
-                base.get(),
-                name.items.as_slice(),
-                nodes,
-            )?;
-            let member = tables.member_of(base.operand, name.items.as_slice());
-            let first = sooner(
-                breach_if(breaks_8(base.operand, member), e.at, 8),
-                base.first,
-            );
-            Ok(Seen {
-                operand: arrow_operand(member),
-                first,
-            })
+            check_arrow(tables, scope, wanted, e.at, base.get(), name, nodes)
         }
         ExprForm::Index(base, index) => {
             let base = check_element(tables, scope, wanted, base.get(), nodes)?;
             let index = check_expr(tables, scope, Wanted::Value, index.get(), nodes)?;
-            let operand = Operand::of_type(element_type(base.operand));
-            let own = breach_if(breaks_9(base.operand, index.operand), e.at, 9);
-            Ok(Seen {
-                operand,
-                first: sooner(own, sooner(base.first, index.first)),
-            })
+            Ok(indexed(e.at, base, index))
         }
-        ExprForm::Not(operand) => {
-            let own = Operand::Typed(SlotType::Int);
-            let seen = check_operand(
-                tables,
-                scope,
-                wanted,
-                own,
-                Wanted::Value,
-                operand.get(),
-                nodes,
-            )?;
-            let first = sooner(breach_if(breaks_12(seen.operand), e.at, 12), seen.first);
-            Ok(Seen {
-                operand: own,
-                first,
-            })
-        }
-        ExprForm::Neg(operand) => {
-            let own = Operand::Typed(SlotType::Int);
-            let seen = check_operand(
-                tables,
-                scope,
-                wanted,
-                own,
-                Wanted::Value,
-                operand.get(),
-                nodes,
-            )?;
-            let first = sooner(
-                breach_if(seen.operand.is_no_integer(), e.at, 10),
-                seen.first,
-            );
-            Ok(Seen {
-                operand: own,
-                first,
-            })
-        }
+        ExprForm::Not(operand) => check_not(tables, scope, wanted, e.at, operand.get(), nodes),
+        ExprForm::Neg(operand) => check_neg(tables, scope, wanted, e.at, operand.get(), nodes),
         ExprForm::Binary(op, left, right) => {
             let own = Operand::Typed(SlotType::Int);
             let beside = wanted_by(*op, operand_of(tables, scope, right.get()));
             let left = check_operand(tables, scope, wanted, own, beside, left.get(), nodes)?;
-            let right = check_expr(
-                tables,
-                scope,
-                wanted_by(*op, left.operand),
-                right.get(),
-                nodes,
-            )?;
-            let rule = binary_rule(*op);
-            let broken = breach_if(breaks_binary(rule, left.operand, right.operand), e.at, rule);
-            let first = sooner(broken, sooner(left.first, right.first));
-            Ok(Seen {
-                operand: own,
-                first,
-            })
+            let beside = wanted_by(*op, left.operand);
+            let right = check_expr(tables, scope, beside, right.get(), nodes)?;
+            Ok(joined(*op, e.at, left, right))
         }
     }
 }

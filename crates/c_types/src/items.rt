@@ -6,7 +6,7 @@ ghost use Rattle.c_tree.specs.View.{proc_view, stmt_view};
 ghost use Rattle.c_types.specs.Breaches.{soonest, sooner, breach_if};
 ghost use Rattle.c_types.specs.Names.{has_name, with_name};
 ghost use Rattle.c_types.specs.Types.{is_pointer, same_types, same_result, same_signature};
-ghost use Rattle.c_types.specs.Scopes.{no_scope, is_empty, breaks_5, with_param, with_params};
+ghost use Rattle.c_types.specs.Scopes.{is_empty, breaks_5, with_param, with_params};
 ghost use Rattle.c_types.specs.Declarations.{has_body, signature_of, with_body, with_bodies};
 ghost use Rattle.c_types.specs.Items.{breaks_3, breaks_4, members_breaches, structs_breaches, params_breaches, body_breaches, body_after, body_infos, ret_slots, proc_breaches, procs_breaches, proc_info, chosen, with_prototype, bodied_infos, external_infos};
 
@@ -16,7 +16,7 @@ use crate::infos::{NodeInfo, NodeInfos, ProcInfo, SlotInfo, SlotInfos};
 use crate::kinds::{SlotType, same_type};
 use crate::names::{Names, number_of};
 use crate::rules::{Breach, breach_if, sooner};
-use crate::scope::{Scope, SlotNumbers, add_slot, declare};
+use crate::scope::OpenScopes;
 use crate::stmts::{check_stmt, check_stmts, note_plain};
 use crate::tables::{Signature, Tables, slot_type};
 use c_tree::{Member, Memory, Name, ProcItem, Span, Stmt, StmtForm, StructDef};
@@ -155,11 +155,11 @@ fn breaks_4(tables: &Tables, name: &[u8], returned: Option<SlotType>) -> bool
 }
 
 /// Declares a parameter where it has a name.
-fn check_param(
+fn check_param<'t>(
     alloc: Global,
     tables: &Tables,
-    scope: &mut Scope,
-    m: &Member,
+    scope: &mut OpenScopes<'t>,
+    m: &'t Member,
 ) -> Result<Option<Breach>, Memory>
     ensures first { IfOk result (λ b. b ≡ breach_if soonest (not (is_empty m.now.name) && breaks_5 scope.old m.now.name) m.now.at 5) }
     ensures after { OnOk result (scope.new ≡ with_param tables.now.tags scope.old m.now) }
@@ -167,23 +167,23 @@ fn check_param(
     let kind = slot_type(&tables.tags, &m.kind);
     match m.name.items.as_slice() {
         [] => {
-            add_slot(alloc, scope, &m.name, kind, m.at)?;
+            scope.add_slot(alloc, &[], kind, m.at)?;
             Ok(None)
         }
         [_, ..] => {
             let again = breach_if(scope.declares(m.name.items.as_slice()), m.at, 5);
-            declare(alloc, scope, &m.name, kind, m.at)?;
+            scope.declare(alloc, &m.name, kind, m.at)?;
             Ok(again)
         }
     }
 }
 
 #[tactic(auto, using(crate::proofs::ItemRows::params_breaches_at, crate::proofs::ItemRows::with_params_at, crate::proofs::Firsts::sooner_assoc, crate::proofs::Firsts::sooner_left, crate::proofs::Firsts::sooner_right))]
-fn check_params(
+fn check_params<'t>(
     alloc: Global,
     tables: &Tables,
-    scope: &mut Scope,
-    params: &[Member],
+    scope: &mut OpenScopes<'t>,
+    params: &'t [Member],
 ) -> Result<Option<Breach>, Memory>
     ensures first { IfOk result (λ b. b ≡ params_breaches soonest tables.now scope.old params.now) }
     ensures after { OnOk result (scope.new ≡ with_params tables.now.tags scope.old params.now) }
@@ -197,12 +197,12 @@ fn check_params(
 }
 
 /// Checks a body, whose outermost block is the scope of the parameters.
-fn check_body(
+fn check_body<'t>(
     alloc: Global,
     tables: &Tables,
     returned: Option<SlotType>,
-    scope: &mut Scope,
-    body: &Option<Stmt>,
+    scope: &mut OpenScopes<'t>,
+    body: &'t Option<Stmt>,
     nodes: &mut Vec<NodeInfo>,
 ) -> Result<Option<Breach>, Memory>
     ensures first { IfOk result (λ b. b ≡ body_breaches soonest tables.now returned scope.old (option_map stmt_view body.now)) }
@@ -274,15 +274,11 @@ fn check_proc(
     ensures first { IfOk result (λ r. r.1 ≡ proc_breaches soonest tables.now bodied.now (proc_view p.now)) }
 {
     let returned = result_type(&tables.tags, &p.result);
-    let mut scope = no_scope(alloc);
+    let mut scope = OpenScopes::new(alloc);
     let mut nodes = Vec::new(alloc);
     let params = check_params(alloc, tables, &mut scope, p.params.as_slice())?;
     let body = check_body(alloc, tables, returned, &mut scope, &p.body, &mut nodes)?;
-    let Scope {
-        mut slots,
-        visible: _,
-        outer: _,
-    } = scope;
+    let mut slots = scope.into_slots();
     add_result(alloc, &mut slots, &p.body, returned, p.close)?;
     let differs = breach_if(breaks_3(alloc, tables, bodied, p)?, p.at, 3);
     let pointer = breach_if(breaks_4(tables, p.name.items.as_slice(), returned), p.at, 4);
@@ -294,20 +290,6 @@ fn check_proc(
         nodes: NodeInfos { items: nodes },
     };
     Ok((info, sooner(differs, sooner(pointer, sooner(params, body)))))
-}
-
-fn no_scope(alloc: Global) -> Scope
-    ensures { result ≡ no_scope }
-{
-    Scope {
-        slots: SlotInfos {
-            items: Vec::new(alloc),
-        },
-        visible: SlotNumbers {
-            items: Vec::new(alloc),
-        },
-        outer: 0,
-    }
 }
 
 /// Keeps a procedure's information where it has the first body of its name.

@@ -16,6 +16,7 @@ mod infos;
 mod items;
 mod kinds;
 mod limits;
+mod meanings;
 mod mentions;
 mod names;
 mod rules;

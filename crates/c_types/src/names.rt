@@ -1,4 +1,4 @@
-ghost use Rattle.std.specs.Prelude.{◌≡◌, ◌<◌, ◌^◌, not, length, slice_get, Some, IfOk, OnOk, position, [], bytes_eq};
+ghost use Rattle.std.specs.Prelude.{◌≡◌, ◌<◌, ◌^◌, not, length, slice_get, Some, IfOk, OnOk, OnErr, position, [], bytes_eq};
 ghost use Rattle.std.specs.List.{position_or_len};
 ghost use Rattle.c_types.specs.Names.{has_name, with_name};
 
@@ -91,6 +91,7 @@ impl<'t> Names<'t> {
     pub fn add(&mut self, name: &'t [u8]) -> Result<bool, Memory>
         ensures known { IfOk result (λ new. new ≡ not (has_name self.old name.now)) }
         ensures names { OnOk result (self.new ≡ with_name self.old name.now) }
+        ensures kept { OnErr result (self.new ≡ self.old) }
     {
         if self.names.len() >= u32::MAX as usize {
             return Err(Memory);

@@ -1,18 +1,18 @@
-ghost use Rattle.std.specs.Prelude.{◌≡◌, ◌++◌, [], ◌∷◌, true, length, take, IfOk, OnOk};
+ghost use Rattle.std.specs.Prelude.{◌≡◌, ◌++◌, [], ◌∷◌, true, length, take, is_some, Some, IfOk, OnOk};
 ghost use Rattle.c_tree.specs.View.{stmt_view, stmts_view, expr_view, cond_view, step_view};
-ghost use Rattle.c_types.specs.Breaches.{soonest, sooner};
-ghost use Rattle.c_types.specs.Scopes.{entered, left};
+ghost use Rattle.c_types.specs.Breaches.{soonest, sooner, breach_if};
+ghost use Rattle.c_types.specs.Scopes.{entered, left, declared, breaks_5};
+ghost use Rattle.c_types.specs.Types.{slot_type, type_of, wanted_for, breaks_12, breaks_13, breaks_15, breaks_16};
 ghost use Rattle.c_types.specs.Exprs.{operand_of, breaches, infos};
-ghost use Rattle.c_types.specs.Stmts.{after, after_all, breaks_12_for, condition_breaches, condition_infos, stmt_breaches, stmts_breaches, stmt_infos, stmts_infos, plain_info, slot_info};
+ghost use Rattle.c_types.specs.Stmts.{after, after_all, breaks_12_for, breaks_17, condition_breaches, condition_infos, stmt_breaches, stmts_breaches, stmt_infos, stmts_infos, plain_info, slot_info};
 
 use crate::exprs::{Seen, check_expr};
 use crate::infos::NodeInfo;
 use crate::kinds::{SlotType, Wanted};
-use crate::names::number_of;
 use crate::rules::{Breach, breach_if, breaks_12, breaks_13, breaks_15, breaks_16, sooner};
-use crate::scope::{Scope, declare, leave};
+use crate::scope::OpenScopes;
 use crate::tables::{Tables, slot_type};
-use c_tree::{Expr, Memory, Stmt, StmtForm};
+use c_tree::{Expr, Memory, Name, Span, Stmt, StmtForm, TypeName};
 use sqlite_items::Boxed;
 use std::alloc::Global;
 
@@ -28,10 +28,10 @@ pub(crate) fn note_plain(nodes: &mut Vec<NodeInfo>) -> Result<(), Memory>
 }
 
 /// Notes a declaration, which refers to the next slot.
-fn note_slot(scope: &Scope, nodes: &mut Vec<NodeInfo>) -> Result<(), Memory>
+fn note_slot(scope: &OpenScopes, nodes: &mut Vec<NodeInfo>) -> Result<(), Memory>
     ensures { OnOk result (nodes.new.items ≡ nodes.old.items ++ slot_info (length scope.now.slots) ∷ []) }
 {
-    let refers = Some(number_of(scope.slots.items.as_slice().len())?);
+    let refers = Some(scope.slot_count()?);
     nodes.push(NodeInfo { kind: None, refers })?;
     Ok(())
 }
@@ -39,7 +39,7 @@ fn note_slot(scope: &Scope, nodes: &mut Vec<NodeInfo>) -> Result<(), Memory>
 /// Notes a statement, and checks the first expression in it.
 fn check_head(
     tables: &Tables,
-    scope: &Scope,
+    scope: &OpenScopes,
     wanted: Wanted,
     e: &Expr,
     nodes: &mut Vec<NodeInfo>,
@@ -62,7 +62,7 @@ struct Condition {
 
 fn check_condition(
     tables: &Tables,
-    scope: &Scope,
+    scope: &OpenScopes,
     e: &Option<Expr>,
     nodes: &mut Vec<NodeInfo>,
 ) -> Result<Condition, Memory>
@@ -85,16 +85,167 @@ fn check_condition(
     }
 }
 
+/// Notes a declaration, whose name is not yet visible.
+fn check_declarator(
+    scope: &OpenScopes,
+    at: Span,
+    x: &Name,
+    nodes: &mut Vec<NodeInfo>,
+) -> Result<Option<Breach>, Memory>
+    ensures first { IfOk result (λ b. b ≡ breach_if soonest (breaks_5 scope.now x.now) at 5) }
+    ensures nodes { OnOk result (nodes.new.items ≡ nodes.old.items ++ slot_info (length scope.now.slots) ∷ []) }
+{
+    note_slot(scope, nodes)?;
+    Ok(breach_if(scope.declares(x.items.as_slice()), at, 5))
+}
+
+/// Declares a variable without an initialiser.
+fn check_local<'t>(
+    alloc: Global,
+    tables: &Tables,
+    scope: &mut OpenScopes<'t>,
+    at: Span,
+    x: &'t Name,
+    t: &TypeName,
+    nodes: &mut Vec<NodeInfo>,
+) -> Result<Option<Breach>, Memory>
+    ensures first { IfOk result (λ b. b ≡ breach_if soonest (breaks_5 scope.old x.now) at 5) }
+    ensures after { OnOk result (scope.new ≡ declared scope.old x.now (slot_type tables.now.tags t.now) at) }
+    ensures nodes { OnOk result (nodes.new.items ≡ nodes.old.items ++ slot_info (length scope.old.slots) ∷ []) }
+{
+    let first = check_declarator(scope, at, x, nodes)?;
+    scope.declare(alloc, x, slot_type(&tables.tags, t), at)?;
+    Ok(first)
+}
+
+/// Declares a variable, and checks its initialiser, in which its name is visible.
+fn check_initialised<'t>(
+    alloc: Global,
+    tables: &Tables,
+    scope: &mut OpenScopes<'t>,
+    at: Span,
+    x: &'t Name,
+    t: &TypeName,
+    e: &Expr,
+    nodes: &mut Vec<NodeInfo>,
+) -> Result<Option<Breach>, Memory>
+    ensures first { IfOk result (λ b. let kind = slot_type tables.now.tags t.now in let inside = declared scope.old x.now kind at in
+        b ≡ sooner (breach_if soonest (breaks_5 scope.old x.now) at 5)
+        (sooner (breach_if soonest (breaks_13 (Some kind) (operand_of tables.now inside (expr_view e.now))) at 13)
+        (breaches soonest tables.now inside (Wanted.For kind) (expr_view e.now)))) }
+    ensures after { OnOk result (scope.new ≡ declared scope.old x.now (slot_type tables.now.tags t.now) at) }
+    ensures nodes { OnOk result (let kind = slot_type tables.now.tags t.now in
+        nodes.new.items ≡ nodes.old.items
+        ++ (slot_info (length scope.old.slots) ∷ infos tables.now (declared scope.old x.now kind at) (Wanted.For kind) (expr_view e.now))) }
+{
+    let kind = slot_type(&tables.tags, t);
+    let again = check_declarator(scope, at, x, nodes)?;
+    scope.declare(alloc, x, kind, at)?;
+    let source = check_expr(tables, scope, Wanted::For(kind), e, nodes)?;
+    let misfit = breach_if(breaks_13(Some(kind), source.operand), at, 13);
+    Ok(sooner(again, sooner(misfit, source.first)))
+}
+
+fn check_assign(
+    tables: &Tables,
+    scope: &OpenScopes,
+    at: Span,
+    t: &Expr,
+    e: &Expr,
+    nodes: &mut Vec<NodeInfo>,
+) -> Result<Option<Breach>, Memory>
+    ensures first { IfOk result (λ b. b ≡ sooner
+        (breach_if soonest (breaks_13 (type_of (operand_of tables.now scope.now (expr_view t.now))) (operand_of tables.now scope.now (expr_view e.now))) at 13)
+        (sooner (breaches soonest tables.now scope.now Wanted.Value (expr_view t.now))
+        (breaches soonest tables.now scope.now (wanted_for (type_of (operand_of tables.now scope.now (expr_view t.now)))) (expr_view e.now)))) }
+    ensures nodes { OnOk result (nodes.new.items ≡ nodes.old.items
+        ++ (plain_info ∷ infos tables.now scope.now Wanted.Value (expr_view t.now)
+        ++ infos tables.now scope.now (wanted_for (type_of (operand_of tables.now scope.now (expr_view t.now)))) (expr_view e.now))) }
+{
+    let target = check_head(tables, scope, Wanted::Value, t, nodes)?;
+    let kind = target.operand.type_of();
+    let source = check_expr(tables, scope, Wanted::of_type(kind), e, nodes)?;
+    let misfit = breach_if(breaks_13(kind, source.operand), at, 13);
+    Ok(sooner(misfit, sooner(target.first, source.first)))
+}
+
+fn check_free(
+    tables: &Tables,
+    scope: &OpenScopes,
+    at: Span,
+    e: &Expr,
+    nodes: &mut Vec<NodeInfo>,
+) -> Result<Option<Breach>, Memory>
+    ensures first { IfOk result (λ b. b ≡ sooner
+        (breach_if soonest (breaks_15 (operand_of tables.now scope.now (expr_view e.now))) at 15)
+        (breaches soonest tables.now scope.now Wanted.Value (expr_view e.now))) }
+    ensures nodes { OnOk result (nodes.new.items ≡ nodes.old.items ++ (plain_info ∷ infos tables.now scope.now Wanted.Value (expr_view e.now))) }
+{
+    let seen = check_head(tables, scope, Wanted::Value, e, nodes)?;
+    Ok(sooner(breach_if(breaks_15(seen.operand), at, 15), seen.first))
+}
+
+/// What is broken first in a statement with that condition and these statements below it.
+fn tested(at: Span, test: Seen, below: Option<Breach>) -> Option<Breach>
+    ensures { result ≡ sooner (breach_if soonest (breaks_12 test.operand) at 12) (sooner test.first below) }
+{
+    let own = breach_if(breaks_12(test.operand), at, 12);
+    sooner(own, sooner(test.first, below))
+}
+
+/// Checks `break` or `continue`.
+fn check_jump(looped: bool, at: Span, nodes: &mut Vec<NodeInfo>) -> Result<Option<Breach>, Memory>
+    ensures first { IfOk result (λ b. b ≡ breach_if soonest (breaks_17 looped) at 17) }
+    ensures nodes { OnOk result (nodes.new.items ≡ nodes.old.items ++ plain_info ∷ []) }
+{
+    note_plain(nodes)?;
+    Ok(breach_if(!looped, at, 17))
+}
+
+/// Checks a return without a value.
+fn check_return(
+    returned: Option<SlotType>,
+    at: Span,
+    nodes: &mut Vec<NodeInfo>,
+) -> Result<Option<Breach>, Memory>
+    ensures first { IfOk result (λ b. b ≡ breach_if soonest (is_some returned) at 16) }
+    ensures nodes { OnOk result (nodes.new.items ≡ nodes.old.items ++ plain_info ∷ []) }
+{
+    note_plain(nodes)?;
+    Ok(breach_if(returned.is_some(), at, 16))
+}
+
+/// Checks a return of a value.
+fn check_value(
+    tables: &Tables,
+    returned: Option<SlotType>,
+    scope: &OpenScopes,
+    at: Span,
+    e: &Expr,
+    nodes: &mut Vec<NodeInfo>,
+) -> Result<Option<Breach>, Memory>
+    ensures first { IfOk result (λ b. b ≡ sooner
+        (breach_if soonest (breaks_16 returned (operand_of tables.now scope.now (expr_view e.now))) at 16)
+        (breaches soonest tables.now scope.now (wanted_for returned) (expr_view e.now))) }
+    ensures nodes { OnOk result (nodes.new.items ≡ nodes.old.items ++ (plain_info ∷ infos tables.now scope.now (wanted_for returned) (expr_view e.now))) }
+{
+    let seen = check_head(tables, scope, Wanted::of_type(returned), e, nodes)?;
+    Ok(sooner(
+        breach_if(breaks_16(returned, seen.operand), at, 16),
+        seen.first,
+    ))
+}
+
 /// Checks a statement of a procedure with that result, in a loop or not, and notes its nodes in
 /// preorder.
 #[cycle(stmts)]
-pub(crate) fn check_stmt(
+pub(crate) fn check_stmt<'t>(
     alloc: Global,
     tables: &Tables,
     returned: Option<SlotType>,
     looped: bool,
-    scope: &mut Scope,
-    s: &Stmt,
+    scope: &mut OpenScopes<'t>,
+    s: &'t Stmt,
     nodes: &mut Vec<NodeInfo>,
 ) -> Result<Option<Breach>, Memory>
     ensures first { IfOk result (λ b. b ≡ stmt_breaches soonest tables.now returned looped scope.old (stmt_view s.now)) }
@@ -106,77 +257,42 @@ pub(crate) fn check_stmt(
             note_plain(nodes)?;
             check_block(alloc, tables, returned, looped, scope, ss.as_slice(), nodes)
         }
-        StmtForm::Local(x, t, None) => {
-            let kind = slot_type(&tables.tags, t);
-            let again = breach_if(scope.declares(x.items.as_slice()), s.at, 5);
-            note_slot(scope, nodes)?;
-            declare(alloc, scope, x, kind, s.at)?;
-            Ok(again)
-        }
+        StmtForm::Local(x, t, None) => check_local(alloc, tables, scope, s.at, x, t, nodes),
         StmtForm::Local(x, t, Some(e)) => {
-            let kind = slot_type(&tables.tags, t);
-            let again = breach_if(scope.declares(x.items.as_slice()), s.at, 5);
-            note_slot(scope, nodes)?;
-            declare(alloc, scope, x, kind, s.at)?;
-            let source = check_expr(tables, scope, Wanted::For(kind), e, nodes)?;
-            let misfit = breach_if(breaks_13(Some(kind), source.operand), s.at, 13);
-            Ok(sooner(again, sooner(misfit, source.first)))
+            check_initialised(alloc, tables, scope, s.at, x, t, e, nodes)
         }
-        StmtForm::Assign(t, e) => {
-            let target = check_head(tables, scope, Wanted::Value, t, nodes)?;
-            let kind = target.operand.type_of();
-            let source = check_expr(tables, scope, Wanted::of_type(kind), e, nodes)?;
-            let misfit = breach_if(breaks_13(kind, source.operand), s.at, 13);
-            Ok(sooner(misfit, sooner(target.first, source.first)))
-        }
+        StmtForm::Assign(t, e) => check_assign(tables, scope, s.at, t, e, nodes),
         StmtForm::Do(e) => Ok(check_head(tables, scope, Wanted::Nothing, e, nodes)?.first),
-        StmtForm::Free(e) => {
-            let seen = check_head(tables, scope, Wanted::Value, e, nodes)?;
-            Ok(sooner(breach_if(breaks_15(seen.operand), s.at, 15), seen.first))
-        }
+        StmtForm::Free(e) => check_free(tables, scope, s.at, e, nodes),
         StmtForm::If(c, then, None) => {
-            let cond = check_head(tables, scope, Wanted::Value, c, nodes)?;
+            let test = check_head(tables, scope, Wanted::Value, c, nodes)?;
             let then = check_below(alloc, tables, returned, looped, scope, then.get(), nodes)?;
-            let own = breach_if(breaks_12(cond.operand), s.at, 12);
-            Ok(sooner(own, sooner(cond.first, then)))
+            Ok(tested(s.at, test, then))
         }
         StmtForm::If(c, then, Some(other)) => {
-            let cond = check_head(tables, scope, Wanted::Value, c, nodes)?;
+            let test = check_head(tables, scope, Wanted::Value, c, nodes)?;
             let then = check_below(alloc, tables, returned, looped, scope, then.get(), nodes)?;
             let other = check_below(alloc, tables, returned, looped, scope, other.get(), nodes)?;
-            let own = breach_if(breaks_12(cond.operand), s.at, 12);
-            Ok(sooner(own, sooner(cond.first, sooner(then, other))))
+            Ok(tested(s.at, test, sooner(then, other)))
         }
         StmtForm::While(c, body) => {
-            let cond = check_head(tables, scope, Wanted::Value, c, nodes)?;
+            let test = check_head(tables, scope, Wanted::Value, c, nodes)?;
             let turn = check_below(alloc, tables, returned, true, scope, body.get(), nodes)?;
-            let own = breach_if(breaks_12(cond.operand), s.at, 12);
-            Ok(sooner(own, sooner(cond.first, turn)))
+            Ok(tested(s.at, test, turn))
         }
         StmtForm::For(init, c, step, body) => {
-            let visible = scope.visible.items.as_slice().len();
-            let outer = scope.outer;
+            let around = scope.enter()?;
             let ss = init.as_slice();
             let head = check_init(alloc, tables, returned, looped, scope, ss, c, nodes)?;
             let next = check_step(alloc, tables, returned, scope, step, nodes)?;
             let turn = check_below(alloc, tables, returned, true, scope, body.get(), nodes)?;
-            leave(scope, visible, outer);
+            scope.leave(around);
             let own = breach_if(head.broken, s.at, 12);
             Ok(sooner(own, sooner(head.first, sooner(next, turn))))
         }
-        StmtForm::Break | StmtForm::Continue => {
-            note_plain(nodes)?;
-            Ok(breach_if(!looped, s.at, 17))
-        }
-        StmtForm::Return(None) => {
-            note_plain(nodes)?;
-            Ok(breach_if(returned.is_some(), s.at, 16))
-        }
-        StmtForm::Return(Some(e)) => {
-            let seen = check_head(tables, scope, Wanted::of_type(returned), e, nodes)?;
-            let own = breach_if(breaks_16(returned, seen.operand), s.at, 16);
-            Ok(sooner(own, seen.first))
-        }
+        StmtForm::Break | StmtForm::Continue => check_jump(looped, s.at, nodes),
+        StmtForm::Return(None) => check_return(returned, s.at, nodes),
+        StmtForm::Return(Some(e)) => check_value(tables, returned, scope, s.at, e, nodes),
         StmtForm::Nothing => {
             note_plain(nodes)?;
             Ok(None)
@@ -184,31 +300,29 @@ pub(crate) fn check_stmt(
     }
 }
 
-/// Notes a for statement, enters its scope and checks its first statements and its condition.
+/// Notes a for statement, and checks its first statements and its condition.
 #[cycle(stmts)]
-fn check_init(
+fn check_init<'t>(
     alloc: Global,
     tables: &Tables,
     returned: Option<SlotType>,
     looped: bool,
-    scope: &mut Scope,
-    ss: &[Stmt],
+    scope: &mut OpenScopes<'t>,
+    ss: &'t [Stmt],
     e: &Option<Expr>,
     nodes: &mut Vec<NodeInfo>,
 ) -> Result<Condition, Memory>
-    ensures broken { IfOk result (λ c. c.broken ≡ breaks_12_for tables.now (after_all tables.now (entered scope.old) (stmts_view ss.now)) (cond_view e.now)) }
+    ensures broken { IfOk result (λ c. c.broken ≡ breaks_12_for tables.now (after_all tables.now scope.old (stmts_view ss.now)) (cond_view e.now)) }
     ensures first { IfOk result (λ c. c.first ≡ sooner
-        (stmts_breaches soonest tables.now returned looped (entered scope.old) (stmts_view ss.now))
-        (condition_breaches soonest tables.now (after_all tables.now (entered scope.old) (stmts_view ss.now)) (cond_view e.now))) }
-    ensures after { OnOk result (scope.new ≡ after_all tables.now (entered scope.old) (stmts_view ss.now)) }
+        (stmts_breaches soonest tables.now returned looped scope.old (stmts_view ss.now))
+        (condition_breaches soonest tables.now (after_all tables.now scope.old (stmts_view ss.now)) (cond_view e.now))) }
+    ensures after { OnOk result (scope.new ≡ after_all tables.now scope.old (stmts_view ss.now)) }
     ensures keeps { OnOk result (take (length scope.old.visible) scope.new.visible ≡ scope.old.visible) }
     ensures nodes { OnOk result (nodes.new.items ≡ nodes.old.items
-        ++ ((plain_info ∷ stmts_infos tables.now returned (entered scope.old) (stmts_view ss.now))
-        ++ condition_infos tables.now (after_all tables.now (entered scope.old) (stmts_view ss.now)) (cond_view e.now))) }
+        ++ ((plain_info ∷ stmts_infos tables.now returned scope.old (stmts_view ss.now))
+        ++ condition_infos tables.now (after_all tables.now scope.old (stmts_view ss.now)) (cond_view e.now))) }
 {
     note_plain(nodes)?;
-    let outer = number_of(scope.slots.items.as_slice().len())?;
-    scope.outer = outer;
     let first = check_stmts(alloc, tables, returned, looped, scope, ss, nodes)?;
     let cond = check_condition(tables, scope, e, nodes)?;
     Ok(Condition {
@@ -219,12 +333,12 @@ fn check_init(
 
 #[cycle(stmts)]
 #[tactic(auto, using(crate::proofs::Firsts::sooner_right))]
-fn check_step(
+fn check_step<'t>(
     alloc: Global,
     tables: &Tables,
     returned: Option<SlotType>,
-    scope: &mut Scope,
-    step: &Option<Boxed<Stmt>>,
+    scope: &mut OpenScopes<'t>,
+    step: &'t Option<Boxed<Stmt>>,
     nodes: &mut Vec<NodeInfo>,
 ) -> Result<Option<Breach>, Memory>
     ensures first { IfOk result (λ b. b ≡ stmts_breaches soonest tables.now returned true scope.old (step_view step.now)) }
@@ -240,58 +354,55 @@ fn check_step(
 /// A statement below another, after which the same variables are visible as before.
 #[cycle(stmts)]
 #[tactic(auto, using(crate::proofs::Scopes::keeps_visible))]
-fn check_below(
+fn check_below<'t>(
     alloc: Global,
     tables: &Tables,
     returned: Option<SlotType>,
     looped: bool,
-    scope: &mut Scope,
-    s: &Stmt,
+    scope: &mut OpenScopes<'t>,
+    s: &'t Stmt,
     nodes: &mut Vec<NodeInfo>,
 ) -> Result<Option<Breach>, Memory>
     ensures first { IfOk result (λ b. b ≡ stmt_breaches soonest tables.now returned looped scope.old (stmt_view s.now)) }
     ensures after { OnOk result (scope.new ≡ left scope.old (after tables.now scope.old (stmt_view s.now))) }
     ensures nodes { OnOk result (nodes.new.items ≡ nodes.old.items ++ stmt_infos tables.now returned scope.old (stmt_view s.now)) }
 {
-    let visible = scope.visible.items.as_slice().len();
-    let outer = scope.outer;
+    let outside = scope.outside();
     let first = check_stmt(alloc, tables, returned, looped, scope, s, nodes)?;
-    leave(scope, visible, outer);
+    scope.leave(outside);
     Ok(first)
 }
 
 #[cycle(stmts)]
-fn check_block(
+fn check_block<'t>(
     alloc: Global,
     tables: &Tables,
     returned: Option<SlotType>,
     looped: bool,
-    scope: &mut Scope,
-    ss: &[Stmt],
+    scope: &mut OpenScopes<'t>,
+    ss: &'t [Stmt],
     nodes: &mut Vec<NodeInfo>,
 ) -> Result<Option<Breach>, Memory>
     ensures first { IfOk result (λ b. b ≡ stmts_breaches soonest tables.now returned looped (entered scope.old) (stmts_view ss.now)) }
     ensures after { OnOk result (scope.new ≡ left scope.old (after_all tables.now (entered scope.old) (stmts_view ss.now))) }
     ensures nodes { OnOk result (nodes.new.items ≡ nodes.old.items ++ stmts_infos tables.now returned (entered scope.old) (stmts_view ss.now)) }
 {
-    let visible = scope.visible.items.as_slice().len();
-    let outer = scope.outer;
-    scope.outer = number_of(scope.slots.items.as_slice().len())?;
+    let outside = scope.enter()?;
     let first = check_stmts(alloc, tables, returned, looped, scope, ss, nodes)?;
-    leave(scope, visible, outer);
+    scope.leave(outside);
     Ok(first)
 }
 
 /// Checks statements of one scope.
 #[cycle(stmts)]
 #[tactic(auto, using(crate::proofs::Walks::stmts_breaches_at, crate::proofs::Walks::after_all_at, crate::proofs::Walks::stmts_infos_at, crate::proofs::Firsts::sooner_assoc, crate::proofs::Firsts::sooner_left, crate::proofs::Firsts::sooner_right))]
-pub(crate) fn check_stmts(
+pub(crate) fn check_stmts<'t>(
     alloc: Global,
     tables: &Tables,
     returned: Option<SlotType>,
     looped: bool,
-    scope: &mut Scope,
-    ss: &[Stmt],
+    scope: &mut OpenScopes<'t>,
+    ss: &'t [Stmt],
     nodes: &mut Vec<NodeInfo>,
 ) -> Result<Option<Breach>, Memory>
     ensures first { IfOk result (λ b. b ≡ stmts_breaches soonest tables.now returned looped scope.old (stmts_view ss.now)) }

@@ -10,7 +10,7 @@ struct Broken {
     rule: u32,
 }
 
-const BREACHES: [Broken; 73] = [
+const BREACHES: [Broken; 90] = [
     Broken {
         source: b"struct s { int a; }; struct s { int a; }; int main(void) { return 0; }",
         at: 21,
@@ -376,10 +376,95 @@ const BREACHES: [Broken; 73] = [
         at: 21,
         rule: 6,
     },
+    Broken {
+        source: b"int *f(int n); int *f(int n); int main(void) { return 0; }",
+        at: 0,
+        rule: 4,
+    },
+    Broken {
+        source: b"void f(int *a) { { int a; free(a); } } int main(void) { return 0; }",
+        at: 26,
+        rule: 15,
+    },
+    Broken {
+        source: b"void f(int a) { { int *a; free(a); } free(a); } int main(void) { return 0; }",
+        at: 37,
+        rule: 15,
+    },
+    Broken {
+        source: b"void f(int *a) { { int a; { char *a; a = NULL; } a = NULL; } } int main(void) { return 0; }",
+        at: 49,
+        rule: 13,
+    },
+    Broken {
+        source: b"void f(void) { { int x; x = 1; } { int *x; x = 1; } } int main(void) { return 0; }",
+        at: 43,
+        rule: 13,
+    },
+    Broken {
+        source: b"void f(int x) { { free(x); int *x; } } int main(void) { return 0; }",
+        at: 18,
+        rule: 15,
+    },
+    Broken {
+        source: b"int f(void) { return NULL[0]; } int main(void) { return 0; }",
+        at: 21,
+        rule: 9,
+    },
+    Broken {
+        source: b"int f(void) { return -NULL; } int main(void) { return 0; }",
+        at: 21,
+        rule: 10,
+    },
+    Broken {
+        source: b"int f(void) { return NULL < 1; } int main(void) { return 0; }",
+        at: 21,
+        rule: 10,
+    },
+    Broken {
+        source: b"int f(int n) { return NULL || n; } int main(void) { return 0; }",
+        at: 22,
+        rule: 12,
+    },
+    Broken {
+        source: b"void f(void) { int *p = -0; } int main(void) { return 0; }",
+        at: 19,
+        rule: 13,
+    },
+    Broken {
+        source: b"void f(int *p) { p[0] = NULL; } int main(void) { return 0; }",
+        at: 17,
+        rule: 13,
+    },
+    Broken {
+        source: b"void f(void) { char *p = malloc(NULL); } int main(void) { return 0; }",
+        at: 25,
+        rule: 14,
+    },
+    Broken {
+        source: b"void f(void) { int *p = malloc(NULL * sizeof(int)); } int main(void) { return 0; }",
+        at: 24,
+        rule: 14,
+    },
+    Broken {
+        source: b"void f(void) { return NULL; } int main(void) { return 0; }",
+        at: 15,
+        rule: 16,
+    },
+    Broken {
+        source: b"void g(void); void f(void) { g(NULL); } int main(void) { return 0; }",
+        at: 29,
+        rule: 7,
+    },
+    Broken {
+        source: b"void f(void) { h(NULL); } int main(void) { return 0; }",
+        at: 15,
+        rule: 6,
+    },
 ];
 
 /// Sources that break no rule, and are no straight lines.
-const NEAR: [&[u8]; 23] = [
+const NEAR: [&[u8]; 26] = [
     b"struct s { int a; }; struct t { int a; }; int main(void) { return 0; }",
     b"int f(int a); int f(const int b); static int f(int c) { return c; } int main(void) { return 0; }",
     b"int *f(int n); int *f(int n) { return 0; } int main(void) { return 0; }",
@@ -403,6 +488,9 @@ const NEAR: [&[u8]; 23] = [
     b"int f(void) { return g(1); } int g(int n) { return n; } int main(void) { return 0; }",
     b"void f(struct a *p) { p = p->b; } struct a { struct a *b; }; int main(void) { return 0; }",
     b"int f(int f) { struct f *g; g = NULL; return f; } struct f { int f; }; int main(void) { return 0; }",
+    b"void f(int *x) { { free(x); int x = x; x = 1; } free(x); } int main(void) { return 0; }",
+    b"void f(char *x) { for (int x = 0; x < 2; x++) { int *x; x = NULL; } x = NULL; } int main(void) { return 0; }",
+    b"struct s { struct s *n; }; void f(struct s *p) { p->n = NULL; if (NULL != p->n) p->n = 0; } int main(void) { return 0; }",
 ];
 
 #[test]
