@@ -1,5 +1,5 @@
 -- What a tree with one or two branches is seen as.
-use Rattle.std.proofs.Common.{◌≡◌, refl, sym, ap, ◌∙◌, rules, Option, Some, None}
+use Rattle.std.proofs.Common.{◌≡◌, sym, ap, ◌∙◌, Some, None}
 use Rattle.c_tree.specs.declared.position.Span.{Span}
 use Rattle.c_tree.specs.declared.tree.Expr as code_expr
 use Rattle.c_tree.specs.declared.tree.Stmt as code

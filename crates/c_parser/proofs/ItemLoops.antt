@@ -1,18 +1,16 @@
 -- One turn of each loop over members, parameters and items, as a fact about what is read.
-use Rattle.std.proofs.Common.{◌≡◌, ◌≤◌, ◌<◌, ◌+◌, ℕ, zero, suc, max, Bool, true, false, List, [], ◌∷◌, ◌++◌, length, map, refl, sym, ap, append_assoc, ◌∙◌, Option, Some, None, arith}
+use Rattle.std.proofs.Common.{◌≡◌, ◌≤◌, ◌<◌, ℕ, zero, suc, max, List, [], ◌∷◌, ◌++◌, length, map, refl, ap, append_assoc, ◌∙◌, Option, Some, None, arith}
 use Rattle.std.specs.Prelude.{codes, option_and_then, option_map}
 use Rattle.c_tree.specs.declared.tree.Member.{Member}
 use Rattle.c_tree.specs.declared.tree.StructDef.{StructDef}
 use Rattle.c_tree.specs.declared.tree.Unit.{Unit as Base}
 use Rattle.c_tree.specs.Plain.{Procedure, Tree}
 use Rattle.c_token.specs.declared.token.Token.{Token}
-use Rattle.c_grammar.specs.Parts.{Part, Piece}
-use Rattle.c_grammar.specs.Types.{IsBase}
-use Rattle.c_grammar.specs.Items.{with_struct, with_proc}
-use Rattle.c_grammar.specs.Reading.{is_word, Front, Named, after_mark, after_word, after_name, read_base}
+use Rattle.c_grammar.specs.Items.{with_proc}
+use Rattle.c_grammar.specs.Reading.{Front, after_mark, after_word, after_name}
 use Rattle.c_grammar.specs.ReadStmts.{Declared, read_declarator}
-use Rattle.c_grammar.specs.ReadItems.{Row, more_members, members_joined, declarators, members, read_member, read_param, some_params, read_proc, read_definition, File, file_struct, file_proc, Kind, defined, forward, procedure, kind_of, from_item, item_at, items, no_items, is_first_word}
-use Rattle.c_grammar.proofs.Fronts.{binding, given, by_bool, by_option, mark_next, word_next, name_next, front_if_true}
+use Rattle.c_grammar.specs.ReadItems.{Row, more_members, members_joined, declarators, members, read_member, read_param, some_params, read_proc, read_definition, File, file_struct, Kind, defined, forward, procedure, kind_of, from_item, item_at, items, is_first_word}
+use Rattle.c_grammar.proofs.Fronts.{binding, given, by_bool, by_option, mark_next, word_next, name_next}
 use Rattle.std.proofs.lemmas.List.{append-nil}
 use Rattle.c_grammar.proofs.Shorter.{next_shorter}
 use Rattle.c_grammar.proofs.LocalSound.{declarator_sound}

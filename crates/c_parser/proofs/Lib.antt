@@ -7,3 +7,4 @@ pub mod Paths
 pub mod WholeFile
 pub mod Branches
 pub mod HeldNames
+pub mod Operands

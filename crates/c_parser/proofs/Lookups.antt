@@ -1,11 +1,11 @@
 -- Lemmas on what is looked up at the front of the tokens.
-use Rattle.std.proofs.Common.{◌≡◌, ◌<◌, ℕ, suc, Bool, true, false, List, [], ◌∷◌, length, refl, sym, ap, Option, Some, None, arith}
+use Rattle.std.proofs.Common.{◌≡◌, ◌<◌, ℕ, List, [], ◌∷◌, length, refl, Option, Some, None, arith}
 use Rattle.std.specs.Prelude.{codes, option_and_then}
 use Rattle.c_tree.specs.declared.position.Span.{Span}
 use Rattle.c_tree.specs.declared.tree.Unit.{Unit as Base}
 use Rattle.c_token.specs.declared.token.Token.{Token}
 use Rattle.c_grammar.specs.Parts.{Piece, join}
-use Rattle.c_grammar.specs.Reading.{is_word, Front, Named, Stretch, after_mark, after_word, after_name, consts, after_const, read_base}
+use Rattle.c_grammar.specs.Reading.{is_word, Front, Named, after_mark, after_word, after_name, consts, after_const, read_base}
 use Rattle.c_grammar.proofs.Fronts.{front_if_true, mark_next, word_next, name_next, by_bool}
 use Rattle.c_parser.specs.Views.{plain_base}
 

@@ -1,5 +1,5 @@
 -- One turn of each loop of the parser, as a fact about what is read.
-use Rattle.std.proofs.Common.{◌≡◌, ◌≤◌, ◌<◌, ◌+◌, ℕ, zero, suc, max, Bool, true, false, List, [], ◌∷◌, ◌++◌, length, refl, sym, ap, subst, ◌∙◌, Option, Some, None, arith}
+use Rattle.std.proofs.Common.{◌≡◌, ◌≤◌, ◌<◌, ◌+◌, ℕ, zero, suc, max, true, false, List, [], ◌∷◌, ◌++◌, length, refl, sym, ap, ◌∙◌, Option, Some, None, arith}
 use Rattle.std.specs.Prelude.{codes, option_and_then, nat_le, if◌then◌else◌}
 use Rattle.std.proofs.lemmas.Bool.{le-leb, leb-true}
 use Rattle.c_tree.specs.declared.tree.Expr as code
@@ -10,9 +10,9 @@ use Rattle.c_token.specs.declared.token.Token.{Token}
 use Rattle.c_grammar.specs.Parts.{Part, Row}
 use Rattle.c_grammar.specs.Exprs.{operation}
 use Rattle.c_grammar.specs.Reading.{Front, after_mark}
-use Rattle.c_grammar.specs.ReadExprs.{Reader, Found, Finder, operand_after, operations, Way, no_way, by_arrow, by_index, way, step_by, steps, more_args, some_args}
+use Rattle.c_grammar.specs.ReadExprs.{Reader, Found, Finder, operand_after, operations, Way, no_way, by_arrow, by_index, way, steps, more_args, some_args}
 use Rattle.c_grammar.proofs.Fronts.{by_bool}
-use Rattle.c_parser.specs.Below.{step_way, one_step, is_step, begins_step}
+use Rattle.c_parser.specs.Below.{one_step, begins_step}
 
 pub not_le : (m n : ℕ) → n < m → nat_le m n ≡ false
 not_le m n less = by_bool (nat_le m n) (λ y. let low : m ≤ n = leb-true m n y in absurd (omega arith)) (λ f. f)

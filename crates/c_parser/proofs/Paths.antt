@@ -1,5 +1,5 @@
 -- A path is copied as itself.
-use Rattle.std.proofs.Common.{◌≡◌, ℕ, zero, suc, ◌≤◌, ◌<◌, ◌-◌, Bool, true, false, List, [], ◌∷◌, arith, refl, sym, ap, ◌∙◌, Option, Some, None}
+use Rattle.std.proofs.Common.{◌≡◌, ℕ, zero, suc, ◌≤◌, ◌<◌, ◌-◌, Bool, true, false, List, [], ◌∷◌, arith, refl, sym, ap, ◌∙◌, Some, None}
 use Rattle.c_tree.specs.Plain.{Expr}
 use Rattle.c_tree.specs.Plain as tree
 use Rattle.c_grammar.specs.ReadStmts.{is_path}
@@ -14,7 +14,6 @@ use Rattle.c_grammar.specs.Reading.{is_word, Front, after_mark}
 use Rattle.c_grammar.specs.Exprs.{expr_line}
 use Rattle.c_grammar.specs.ReadExprs.{Stage, stage, read_primary, steps, Way, no_way, by_arrow, by_index, way}
 use Rattle.c_parser.specs.Below.{begins_step}
-use Rattle.c_tree.specs.declared.position.Span.{Span}
 use Rattle.c_grammar.specs.ReadStmts.{read_simple, read_enclosed, free_closed, from_primary, from_way, from_target, from_tree, is_name, read_stmt, stmt_by, read_block, block_by}
 use Rattle.c_grammar.proofs.SimpleSound.{simple_sound}
 use Rattle.c_parser.specs.declared.error.ParseError.{ParseError}

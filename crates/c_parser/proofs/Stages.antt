@@ -1,6 +1,6 @@
 -- What the depth that is left is there for, by whether any is left.
-use Rattle.std.proofs.Common.{◌≡◌, ◌≤◌, ◌<◌, ◌+◌, ◌-◌, ℕ, zero, suc, Bool, true, false, List, [], ◌∷◌, length, refl, sym, ap, subst, inl, inr, ◌∙◌, Option, Some, None, arith}
-use Rattle.std.specs.Prelude.{codes, option_and_then, ◌⊎◌, IsErrAnd}
+use Rattle.std.proofs.Common.{◌≡◌, ◌≤◌, ◌<◌, ◌-◌, ℕ, zero, suc, true, false, List, [], ◌∷◌, length, refl, subst, inl, inr, ◌∙◌, Option, Some, None, arith}
+use Rattle.std.specs.Prelude.{codes, option_and_then, IsErrAnd}
 use Rattle.std.specs.declared.result.Result.{Result}
 use Rattle.std.proofs.lemmas.Result.{err_from_is_err_and}
 use Rattle.c_token.specs.declared.token.TokenKind.TheVariants as kind
@@ -14,8 +14,8 @@ use Rattle.c_tree.specs.declared.tree.Unit.{Unit as Measured}
 use Rattle.c_tree.specs.Plain.{Expr}
 use Rattle.c_tree.specs.Plain as tree
 use Rattle.c_token.specs.declared.token.Token.{Token}
-use Rattle.c_grammar.specs.Parts.{Part, Row, Piece}
-use Rattle.c_grammar.specs.Exprs.{leaf, Request, product_line, expr_line}
+use Rattle.c_grammar.specs.Parts.{Part, Piece}
+use Rattle.c_grammar.specs.Exprs.{leaf, product_line, expr_line}
 use Rattle.c_grammar.specs.Types.{type_of}
 use Rattle.c_grammar.specs.Reading.{is_mark, is_word, Front, Stretch, after_mark, read_base, read_star}
 use Rattle.c_grammar.specs.ReadExprs.{Reader, Stage, stage, find, operations, read_line, read_unary, read_counted, rise, allocation_at, size_by, size_unit, read_unit, begins_base, begins_sizeof, args_closed}

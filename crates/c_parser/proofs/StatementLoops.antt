@@ -1,5 +1,5 @@
 -- One turn of each loop over statements, as a fact about what is read.
-use Rattle.std.proofs.Common.{◌≡◌, ◌≤◌, ◌<◌, ◌+◌, ℕ, zero, suc, max, Bool, true, false, List, [], ◌∷◌, ◌++◌, length, refl, sym, ap, ◌∙◌, Option, Some, None, arith}
+use Rattle.std.proofs.Common.{◌≡◌, ◌≤◌, ◌<◌, ℕ, zero, suc, max, true, false, List, [], ◌∷◌, ◌++◌, length, refl, ap, ◌∙◌, Option, Some, None, arith}
 use Rattle.std.specs.Prelude.{codes, is_some, option_and_then}
 use Rattle.c_tree.specs.declared.tree.Stmt as code
 use Rattle.c_tree.specs.declared.tree.Unit.{Unit as Base}

@@ -1,5 +1,5 @@
 -- What is read of all of the tokens, as the clauses of `parse` have it.
-use Rattle.std.proofs.Common.{◌≡◌, ◌≤◌, ◌*◌, ℕ, List, length, sym, subst, ◌∙◌, Option, Some, None}
+use Rattle.std.proofs.Common.{◌≡◌, ◌≤◌, ◌*◌, ℕ, List, length, subst, ◌∙◌, Option, Some, None}
 use Rattle.std.specs.Prelude.{option_map, IfOk, Ok, Err}
 use Rattle.std.specs.declared.result.Result.{Result}
 use Rattle.c_tree.specs.declared.tree.Tree as code
@@ -11,7 +11,6 @@ use Rattle.c_token.specs.declared.token.Token.{Token}
 use Rattle.c_grammar.specs.Items.{IsSpelled}
 use Rattle.c_grammar.specs.Named.{HoldNames}
 use Rattle.c_grammar.specs.ReadItems.{File, read_file}
-use Rattle.c_grammar.proofs.Fronts.{by_option}
 use Rattle.c_grammar.proofs.Whole.{found, none_spelled, only}
 use Rattle.c_grammar.proofs.ItemFormed.{tree_formed}
 use Rattle.c_grammar.proofs.ItemSize.{spells_size}

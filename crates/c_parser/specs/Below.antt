@@ -1,5 +1,5 @@
 -- Parts of what is read of an expression, cut where the parser's functions are.
-use Rattle.std.specs.Prelude.{ℕ, Bool, true, false, List, [], length, Option, Some, None, option_and_then, codes}
+use Rattle.std.specs.Prelude.{Bool, true, false, List, length, Option, Some, None, option_and_then, codes}
 use Rattle.c_tree.specs.Plain.{Expr, Exprs, no_exprs}
 use Rattle.c_token.specs.declared.token.Token.{Token}
 use Rattle.c_grammar.specs.Parts.{Part, Row}

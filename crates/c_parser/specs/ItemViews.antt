@@ -1,5 +1,5 @@
 -- What a clause sees of what the parser of items returns.
-use Rattle.std.specs.Prelude.{ℕ, List, [], ◌∷◌, ◌++◌, Option, Some, None, option_map, option_and_then, if◌then◌else◌, map}
+use Rattle.std.specs.Prelude.{ℕ, List, [], ◌∷◌, Option, Some, None, option_and_then, if◌then◌else◌}
 use Rattle.c_tree.specs.declared.tree.TypeName.{TypeName}
 use Rattle.c_tree.specs.declared.tree.Member.{Member}
 use Rattle.c_tree.specs.declared.tree.StructDef.{StructDef}

@@ -1,5 +1,5 @@
 -- What a clause sees of what the statement parser returns.
-use Rattle.std.specs.Prelude.{ℕ, List, Bool, true, false, if◌then◌else◌, Option, Some, None, option_map, option_and_then, codes}
+use Rattle.std.specs.Prelude.{ℕ, List, Bool, true, false, if◌then◌else◌, Option, Some, None, option_and_then, codes}
 use Rattle.c_tree.specs.declared.position.Span.{Span}
 use Rattle.c_tree.specs.declared.tree.Member.{Member}
 use Rattle.c_tree.specs.Plain.{Expr, Exprs, Stmt, Stmts}

@@ -1,6 +1,6 @@
-ghost use Rattle.std.specs.Prelude.{◌≡◌, ◌≤◌, ◌<◌, ◌+◌, ◌^◌, IfOk, option_and_then};
+ghost use Rattle.std.specs.Prelude.{◌≡◌, ◌≤◌, ◌<◌, ◌+◌, ◌^◌, false, IfOk, option_and_then};
 ghost use Rattle.c_tree.specs.View.{expr_view};
-ghost use Rattle.c_grammar.specs.ReadExprs.{stage};
+ghost use Rattle.c_grammar.specs.ReadExprs.{stage, read_primary};
 ghost use Rattle.c_grammar.specs.ReadStmts.{read_enclosed, read_simple, from_target, from_primary, free_closed, is_name};
 ghost use Rattle.c_parser.specs.Views.{front_of, expr_part, Gives};
 ghost use Rattle.c_parser.specs.StmtViews.{stmt_part, step_path, is_variable, is_call};
@@ -53,15 +53,33 @@ pub(crate) fn simple<'a>(
     if is_word(&front.token.kind, b"free") {
         return release(parser, limit - 1, front.token, front.rest);
     }
-    let named = is_name(&front.token.kind);
+    if !is_name(&front.token.kind) {
+        return from_operand(parser, limit - 2, tokens);
+    }
     let first = primary(parser, limit - 2, tokens)?;
-    after_primary(parser, limit - 2, named, first)
+    after_primary(parser, limit - 2, true, first)
 }
 
 fn is_name(kind: &TokenKind) -> bool
     ensures { result ≡ is_name kind.now }
 {
     matches!(kind, TokenKind::Name(_))
+}
+
+/// What an operand that is no name begins: a member or an element of it, so one level less is left to the operand itself.
+fn from_operand<'a>(
+    parser: Parser,
+    limit: u32,
+    tokens: &'a [Token],
+) -> Result<StmtPart<'a>, ParseError>
+    requires { limit ≤ 198 }
+    ensures read { Gives stmt_part result (option_and_then (from_primary limit (stage limit) false) (read_primary (stage limit) tokens.now)) }
+{
+    if limit == 0 {
+        return Err(ParseError::Parse(parser.place(tokens)));
+    }
+    let first = primary(parser, limit - 1, tokens)?;
+    after_primary(parser, limit, false, first)
 }
 
 /// A `free`, after its word.

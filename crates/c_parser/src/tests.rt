@@ -32,7 +32,7 @@ static TREES: [&[u8]; 12] = [
     b"struct s { int a; }; struct s *f(void) { struct s *p; p = (struct s *)malloc(sizeof(struct s)); return p; }",
 ];
 
-static PLACES: [(&[u8], u32); 40] = [
+static PLACES: [(&[u8], u32); 80] = [
     (b"int f(int) {", 11),
     (b"int f(int a,) {", 12),
     (b"int f(void) { else }", 14),
@@ -76,6 +76,50 @@ static PLACES: [(&[u8], u32); 40] = [
     (b"int f(struct s);", 14),
     (b"x", 0),
     (b"int f(void x);", 11),
+    // What may not stand after or in an `if`, a `while` and a `for`.
+    (b"int f(void) { if (1) ; else ; else ; }", 30),
+    (b"int f(void) { if (1) ; else int x; }", 28),
+    (b"int f(void) { while (1) int x; }", 24),
+    (b"int f(void) { for (;;) int x; }", 23),
+    (b"int f(void) { for (;) ; }", 20),
+    (b"int f(void) { for (int i) ; }", 24),
+    (b"int f(void) { for (;; int i) ; }", 22),
+    (b"int f(void) { if () ; }", 18),
+    (b"int f(void) { while x ; }", 20),
+    // Where no unit may stand, and what may not follow one.
+    (b"int f(void) { p = malloc(n * sizeof *p * m); }", 39),
+    (b"int f(void) { p = malloc(sizeof *p * sizeof *q); }", 37),
+    (b"int f(void) { p = malloc(sizeof *p / n); }", 35),
+    (b"int f(void) { p = malloc(sizeof *p + n); }", 35),
+    (b"int f(void) { p = malloc(sizeof *p->q); }", 34),
+    (b"int f(void) { p = malloc(n + sizeof *p); }", 29),
+    (b"int f(void) { p = malloc((sizeof *p) * n); }", 26),
+    (b"int f(void) { p = malloc(n * (sizeof *p)); }", 30),
+    (b"int f(void) { p = malloc(-sizeof *p); }", 26),
+    (b"int f(void) { p = calloc(n, sizeof *p * 2); }", 38),
+    (b"int f(void) { p = calloc(sizeof *p, n); }", 25),
+    (b"int f(void) { x = sizeof *p; }", 18),
+    // Statements.
+    (b"int f(void) { !x = 1; }", 14),
+    (b"int f(void) { 1->a; }", 18),
+    (b"int f(void) { f()++; }", 17),
+    (b"int f(void) { x->a[1]--; }", 21),
+    (b"int f(void) { f(1,); }", 18),
+    (b"int f(void) { free p; }", 19),
+    (b"int f(void) { break }", 20),
+    (b"int f(void) { goto x; }", 14),
+    (b"int f(void) { x = --y; }", 18),
+    // Declarations.
+    (b"int f(void) { static int x; }", 14),
+    (b"int f(void) { int; }", 17),
+    (b"int f(void) { int x y; }", 20),
+    (b"int f(void) { struct s x; }", 23),
+    (b"int f(void) { struct s; }", 22),
+    (b"const struct s { int a; };", 15),
+    (b"int x;", 5),
+    (b"void *f(void);", 5),
+    (b"int f(void, int a);", 10),
+    (b"int f(int a, void);", 13),
 ];
 
 #[test]
@@ -115,12 +159,35 @@ fn long(
     Ok(source)
 }
 
-static LONG: [(&[u8], &[u8], usize, &[u8], Option<u32>); 12] = [
+static LONG: [(&[u8], &[u8], usize, &[u8], Option<u32>); 16] = [
     (b"int f(void) { x = ", b"(", 100_000, b"", Some(215)),
     (b"int f(void) { x = ", b"!", 100_000, b"", Some(215)),
     (b"int f(void) ", b"{", 100_000, b"", Some(212)),
     (b"int f(void) { x = 1", b" + 1", 197, b"; }", None),
     (b"int f(void) { x = 1", b" + 1", 198, b"; }", Some(808)),
+    (b"int f(void) { x = 1", b" + 1", 199, b"; }", Some(808)),
+    // The last `if` of 197 is the 198th statement from the body's block on, and its condition the 200th level.
+    (
+        b"int f(void) { if (a) ; ",
+        b"else if (a) ; ",
+        196,
+        b"}",
+        None,
+    ),
+    (
+        b"int f(void) { if (a) ; ",
+        b"else if (a) ; ",
+        197,
+        b"}",
+        Some(2_772),
+    ),
+    (
+        b"int f(void) { if (a) ; ",
+        b"else if (a) ; ",
+        200,
+        b"}",
+        Some(2_772),
+    ),
     (b"int f(void) { ", b"x = 1; ", 100_000, b"}", None),
     (b"int f(int a", b", int a", 100_000, b");", None),
     (b"struct s { int a", b", a", 100_000, b"; };", None),
@@ -136,6 +203,88 @@ fn long_sources(rt: HostRuntime) -> Result<(), Fail> {
         let source = long(rt.alloc(), front, piece, *times, end)?;
         if source.len() <= 4_194_304 {
             assert_eq!(rt; place(rt.alloc(), source.as_slice())?, *expected);
+        }
+    }
+    Ok(())
+}
+
+/// A statement in so many blocks inside the body's, and the place.
+static DEEP: [(usize, &[u8], Option<u32>); 57] = [
+    // Four levels are left to the statement.
+    (195, b"(x)->a = 1;", None),
+    (195, b"((x))->a = 1;", Some(209)),
+    (195, b"1->a->b = 1;", None),
+    (195, b"1->a->b->c = 1;", Some(215)),
+    (195, b"malloc(sizeof *p)->a = 1;", None),
+    (195, b"malloc(4)->a = 1;", Some(215)),
+    (195, b"calloc(1, 1)->a = 1;", Some(208)),
+    (195, b"(int *)malloc(sizeof *p)[0] = 1;", None),
+    (195, b"(int *)malloc(sizeof(int))[0] = 1;", Some(228)),
+    (195, b"p = malloc(1 * 2);", Some(223)),
+    (195, b"p = malloc(1 / 2);", Some(221)),
+    (195, b"p = malloc(1 + 2);", Some(221)),
+    (195, b"p = malloc(1 * sizeof *p);", None),
+    (195, b"p = malloc(1 * sizeof(int));", None),
+    // Three.
+    (196, b"(x)->a = 1;", Some(209)),
+    (196, b"malloc(sizeof *p)->a = 1;", Some(209)),
+    (196, b"1->a = 1;", None),
+    (196, b"1->a = !1;", None),
+    (196, b"1[-1] = 1;", Some(211)),
+    (196, b"x++;", None),
+    (196, b"f();", None),
+    (196, b"f(1);", Some(211)),
+    (196, b"f()->a = 1;", Some(212)),
+    (196, b"free(x);", None),
+    (196, b"free((x));", Some(214)),
+    (196, b"if (x) ;", None),
+    (196, b"p = malloc(4);", Some(220)),
+    (196, b"p = malloc(sizeof *p * 1);", Some(230)),
+    // Two.
+    (197, b"1->a = 1;", Some(210)),
+    (197, b"\"s\"[0] = 1;", Some(210)),
+    (197, b"x = 1;", None),
+    (197, b"x->a = 1;", Some(211)),
+    (197, b"x++;", Some(211)),
+    (197, b"f();", Some(211)),
+    (197, b"free(x);", Some(210)),
+    (197, b"if (x) ;", Some(210)),
+    (197, b"while (x) ;", Some(210)),
+    (197, b"for (;;) ;", None),
+    (197, b"for (x = 1;;) ;", Some(215)),
+    (197, b"for (; x;) ;", Some(217)),
+    (197, b"return 1;", None),
+    (197, b"return -1;", Some(217)),
+    (197, b"int x = 1;", None),
+    (197, b"int x = -1;", Some(218)),
+    (197, b"{ ; }", None),
+    // One.
+    (198, b";", None),
+    (198, b"x = 1;", Some(211)),
+    (198, b"int x;", None),
+    (198, b"int x = 1;", Some(217)),
+    (198, b"return;", None),
+    (198, b"return 1;", Some(218)),
+    (198, b"break;", None),
+    (198, b"for (;;) ;", Some(211)),
+    (198, b"{ ; }", Some(213)),
+    // None.
+    (199, b"", None),
+    (199, b";", Some(212)),
+    (199, b"int x;", Some(212)),
+];
+
+#[test]
+fn deep_statements(rt: HostRuntime) -> Result<(), Fail> {
+    for (blocks, statement, expected) in &DEEP {
+        let front = long(rt.alloc(), b"int f(void) {", b"{", *blocks, statement)?;
+        let source = long(rt.alloc(), front.as_slice(), b"}", *blocks, b"}")?;
+        if source.len() <= 4_194_304 {
+            assert_eq!(rt;
+                place(rt.alloc(), source.as_slice())?,
+                *expected,
+                "at {blocks}"
+            );
         }
     }
     Ok(())

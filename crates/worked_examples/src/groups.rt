@@ -1,11 +1,5 @@
-// Call groups of sources, and the numbers of their unknowns.
-ghost use Rattle.std.specs.Prelude.{◌<◌};
-
+// Call groups of sources.
 use crate::harness::graph_of;
-use c_tree::Memory;
-use c_types::LimitKind;
-use flow_graph::Graph;
-use owner_vars::{NumberError, Numbering, number, number_root};
 use recursion_groups::groups;
 use std::alloc::Global;
 use std::process::Abort;
@@ -18,11 +12,11 @@ struct Grouped {
 }
 
 /// Two calls of one procedure.
-const TWICE: &str =
+pub const TWICE: &str =
     "int *id(int *p) { return p; } int main(void) { int *a; int *b; int *c; a = malloc(sizeof(int)); b = id(a); c = id(b); free(b); return 0; }";
 
 /// Two procedures that call one another.
-const MUTUAL: &str =
+pub const MUTUAL: &str =
     "struct node { int v; struct node *next; }; void odd(struct node *p); void even(struct node *p) { struct node *q; if (p == NULL) return; q = p->next; free(p); odd(q); } void odd(struct node *p) { struct node *q; if (p == NULL) return; q = p->next; free(p); even(q); } int main(void) { even(NULL); return 0; }";
 
 const GROUPED: [Grouped; 9] = [
@@ -140,8 +134,17 @@ fn groups_are_as_worked_out(rt: HostRuntime) -> Result<(), Fail> {
             assert_eq!(rt; group.items.as_slice(), *procs, "{}", grouped.source);
         }
     }
-    check_chain(&rt, rt.alloc(), Chain::Down, 1_000)?;
-    check_chain(&rt, rt.alloc(), Chain::Up, 1_000)?;
+    Ok(())
+}
+
+#[test]
+fn long_chains_are_grouped(rt: HostRuntime) -> Result<(), Fail> {
+    check_chain(&rt, rt.alloc(), Chain::Down, 4_000)?;
+    check_chain(&rt, rt.alloc(), Chain::Up, 4_000)
+}
+
+#[test]
+fn a_long_ring_is_one_group(rt: HostRuntime) -> Result<(), Fail> {
     let ring = chain_of(rt.alloc(), Chain::Ring, 200)?;
     let graph = graph_of(rt.alloc(), ring.as_bytes())?;
     let found = groups(rt.alloc(), &graph)?;
@@ -150,145 +153,6 @@ fn groups_are_as_worked_out(rt: HostRuntime) -> Result<(), Fail> {
     assert_eq!(rt; found.items[0].items.len(), 200);
     for (proc, member) in found.items[0].items.iter().enumerate() {
         assert_eq!(rt; *member as usize, proc);
-    }
-    Ok(())
-}
-
-/// A source, the group of a procedure alone, and how many unknowns it has.
-struct Counted {
-    source: &'static str,
-    proc: u32,
-    count: u32,
-}
-
-const FREED: &str = "int main(void) { int *p; p = malloc(sizeof(int)); free(p); return 0; }";
-
-const LEAK: &str = "int main(void) { int *p; p = malloc(sizeof(int)); return 0; }";
-
-const HANDED: &str =
-    "int *id(int *p) { return p; } int main(void) { int *a; a = malloc(sizeof(int)); a = id(a); free(a); return 0; }";
-
-const MADE: &str =
-    "int *mk(void) { int *p; p = malloc(sizeof(int)); return p; } int main(void) { int *q; q = mk(); return 0; }";
-
-const BOX: &str =
-    "struct box { char *s; }; int main(void) { struct box *a = malloc(sizeof(struct box)); char *t = malloc(4); char *u; a->s = t; u = a->s; free(u); free(a); return 0; }";
-
-const COUNTED: [Counted; 7] = [
-    Counted {
-        source: FREED,
-        proc: 0,
-        count: 7,
-    },
-    Counted {
-        source: LEAK,
-        proc: 0,
-        count: 6,
-    },
-    Counted {
-        source: HANDED,
-        proc: 0,
-        count: 8,
-    },
-    Counted {
-        source: HANDED,
-        proc: 1,
-        count: 20,
-    },
-    Counted {
-        source: MADE,
-        proc: 0,
-        count: 11,
-    },
-    Counted {
-        source: MADE,
-        proc: 1,
-        count: 7,
-    },
-    Counted {
-        source: BOX,
-        proc: 0,
-        count: 57,
-    },
-];
-
-/// The numbers of the unknowns of a group of one procedure.
-fn number_one(alloc: Global, graph: &Graph, proc: u32) -> Result<Numbering, NumberError>
-    requires { proc < graph.now.bodies }
-{
-    number(alloc, graph, &[proc])
-}
-
-/// A body of so many pointers.
-fn pointers_of(alloc: Global, count: u32) -> Result<String, Fail> {
-    let mut source = String::from_str(alloc, "int main(void) { ")?;
-    for pointer in 0..count {
-        source.push_str(format!(in alloc; "int *p{pointer}; ")?.as_str())?;
-    }
-    source.push_str("return 0; }")?;
-    Ok(source)
-}
-
-/// How many unknowns a body of so many pointers has, or how many are too many.
-const MANY: [(u32, Result<u32, u64>); 3] = [
-    (2_046, Ok(4_194_300)),
-    (2_894, Ok(8_386_812)),
-    (2_895, Err(8_392_605)),
-];
-
-/// A source, the first procedure of its second group where there is one (that of the first is 0), and how many
-/// unknowns the root has.
-const ROOTS: [(&str, Option<u32>, u32); 4] = [
-    (FREED, None, 0),
-    (HANDED, Some(1), 2),
-    (MADE, Some(1), 1),
-    (MUTUAL, Some(2), 2),
-];
-
-/// How many unknowns the root has.
-fn root_count(alloc: Global, graph: &Graph, second: Option<u32>) -> Result<u32, Memory>
-    requires { 0 < graph.now.bodies }
-{
-    match second {
-        Some(second) if 0 < second && second < graph.bodies() => {
-            Ok(number_root(alloc, graph, &[0, second])?.count())
-        }
-        _ => Ok(number_root(alloc, graph, &[0])?.count()),
-    }
-}
-
-#[test]
-fn unknowns_are_as_worked_out(rt: HostRuntime) -> Result<(), Fail> {
-    for counted in &COUNTED {
-        let graph = graph_of(rt.alloc(), counted.source.as_bytes())?;
-        assert!(rt; counted.proc < graph.bodies());
-        let numbers = number_one(rt.alloc(), &graph, counted.proc)?;
-        assert_eq!(rt; numbers.count(), counted.count, "{}", counted.source);
-    }
-    for (source, second, count) in &ROOTS {
-        let graph = graph_of(rt.alloc(), source.as_bytes())?;
-        assert!(rt; 0 < graph.bodies());
-        assert_eq!(rt;
-            root_count(rt.alloc(), &graph, *second)?,
-            *count,
-            "root of {source}"
-        );
-    }
-    for (pointers, count) in &MANY {
-        let source = pointers_of(rt.alloc(), *pointers)?;
-        let graph = graph_of(rt.alloc(), source.as_bytes())?;
-        assert!(rt; 0 < graph.bodies());
-        let found = match number_one(rt.alloc(), &graph, 0) {
-            Ok(numbers) => Ok(numbers.count()),
-            Err(
-                NumberError::Limit {
-                    kind: LimitKind::Unknowns,
-                    count,
-                },
-            ) => Err(count),
-            Err(_) => Err(0),
-        };
-        assert_eq!(rt; found, *count, "{pointers} pointers");
     }
     Ok(())
 }

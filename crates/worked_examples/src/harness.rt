@@ -1,6 +1,9 @@
 // Runs of the top call over one source in memory.
 ghost use Rattle.std.specs.Prelude.{◌<◌};
 
+use c_parser::{ParseError, parse};
+use c_token::tokens;
+use c_tree::Tree;
 use clouseau_core::{Words, clouseau, typed_source};
 use flow_graph::{Graph, build};
 use io_edge::{Bytes, MemFiles, MemSink, NamedFile, NamedFiles, Numbers};
@@ -106,6 +109,20 @@ pub const CONSTRUCTOR: &str =
 /// A list that is built and released in loops.
 pub const LIST: &str =
     "struct node { int v; struct node *next; };\nstruct node *push(struct node *list, int v) {\n  struct node *n = malloc(sizeof(struct node));\n  if (n == NULL) return list;\n  n->v = v;\n  n->next = list;\n  return n;\n}\nvoid list_free(struct node *list) {\n  struct node *next;\n  while (list != NULL) {\n    next = list->next;\n    free(list);\n    list = next;\n  }\n}\nint main(void) {\n  struct node *list = NULL;\n  int i;\n  for (i = 0; i < 10; i++)\n    list = push(list, i);\n  list_free(list);\n  return 0;\n}";
+
+/// What the tokens of a source spell.
+pub fn parsed(alloc: Global, source: &[u8]) -> Result<Result<Tree, ParseError>, Fail> {
+    if source.len() > MOST_BYTES {
+        return Err(Fail::from("too long"));
+    }
+    let tokens = tokens(alloc, source)?;
+    Ok(parse(alloc, tokens.as_slice()))
+}
+
+/// The tree of a source that is in the grammar.
+pub fn tree_of(alloc: Global, source: &[u8]) -> Result<Tree, Fail> {
+    Ok(parsed(alloc, source)??)
+}
 
 /// The flow graph of a source that breaks no rule.
 pub fn graph_of(alloc: Global, source: &[u8]) -> Result<Graph, Fail> {

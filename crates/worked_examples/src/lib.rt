@@ -15,8 +15,16 @@ mod groups;
 #[cfg(test)]
 mod harness;
 #[cfg(test)]
+mod prefixes;
+#[cfg(test)]
 mod refusals;
 #[cfg(test)]
 mod runs;
 #[cfg(test)]
+mod shapes;
+#[cfg(test)]
+mod trees;
+#[cfg(test)]
 mod type_rules;
+#[cfg(test)]
+mod unknowns;

@@ -279,7 +279,7 @@ const AFTER_MEMBERS: &str = "}; int main(void) { return 0; }";
 
 const AFTER_PARAMS: &str = "); int main(void) { return 0; }";
 
-const LIMITS: [Limit; 12] = [
+const LIMITS: [Limit; 13] = [
     Limit {
         first: "",
         kind: Counted::Structs,
@@ -352,6 +352,14 @@ const LIMITS: [Limit; 12] = [
         last: "}; int main(void) { return x; }",
         status: 2,
         line: "1:614: type rule 6\n",
+    },
+    Limit {
+        first: "int main(void) { return x; } struct s { ",
+        kind: Counted::Members,
+        count: 65,
+        last: "};",
+        status: 2,
+        line: "1:25: type rule 6\n",
     },
     Limit {
         first: "struct s { ",

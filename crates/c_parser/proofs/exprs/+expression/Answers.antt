@@ -1,17 +1,17 @@
-use Rattle.std.proofs.Common.{◌≡◌, ◌≤◌, ◌<◌, ◌+◌, ◌-◌, ℕ, suc, max, List, ◌∷◌, length, ap, refl, sym, ◌∙◌, subst, add-one, Option, Some, None, arith}
-use Rattle.std.specs.Prelude.{option_and_then, codes, Bool, true, false}
-use Rattle.c_tree.specs.View.{expr_view, exprs_view}
+use Rattle.std.proofs.Common.{◌≡◌, ◌≤◌, ◌<◌, ◌-◌, ℕ, suc, List, ◌∷◌, length, ap, refl, sym, ◌∙◌, subst, add-one, Some, None, arith}
+use Rattle.std.specs.Prelude.{codes, true, false}
+use Rattle.c_tree.specs.View.{exprs_view}
 use Rattle.c_tree.specs.Plain as tree
 use Rattle.c_tree.specs.Plain.{no_exprs}
-use Rattle.c_grammar.specs.Exprs.{called, allocated, expr_line, product_line}
+use Rattle.c_grammar.specs.Exprs.{called, allocated, expr_line}
 use Rattle.c_grammar.specs.Parts.{Part}
 use Rattle.c_tree.specs.declared.position.Span.{Span}
 use Rattle.c_grammar.specs.Reading.{after_mark, is_word, is_mark}
-use Rattle.c_grammar.specs.ReadExprs.{stage, read_line, read_unary, read_primary, find, operations, rise}
-use Rattle.c_parser.specs.Views.{front_of, found_of, expr_part, args_row, unit_row, size_row, allocation_part, finder}
+use Rattle.c_grammar.specs.ReadExprs.{stage, read_line, read_primary, find, operations}
+use Rattle.c_parser.specs.Views.{front_of, found_of, expr_part, args_row, size_row, allocation_part, finder}
 use Rattle.c_parser.proofs.Lookups.{mark_shorter}
 use Rattle.c_parser.proofs.Loops.{joined, view_one, args_last, args_more, operations_refused, operand_deep, operand_refused, steps_end}
-use Rattle.c_parser.proofs.Stages.{line_at_none, line_below, line_refused, higher_refused, line_shorter, refused, paren_cast, allocation_malloc, allocation_calloc, allocation_other, nothing_allocated, primary_name, primary_call, primary_word, primary_mark, primary_first, args_none, args_below, size_units, size_none, size_below, higher_rise, first_not, first_neg}
+use Rattle.c_parser.proofs.Stages.{line_at_none, line_below, line_refused, higher_refused, line_shorter, refused, paren_cast, allocation_malloc, allocation_calloc, allocation_other, nothing_allocated, primary_call, primary_first, args_none, args_below, size_units, size_none, size_below, higher_rise, first_not, first_neg}
 use Rattle.c_parser.proofs.exprs.+expression.Goals as goal
 use Rattle.c_parser.proofs.exprs.+expression.Goals.{allocation-else-limit-gt0-via-then-limit-gt0+else-is_word, allocation-else-limit-gt0-via-else-limit-gt0, allocation-else-limit-gt1-via-then-limit-gt1+else-is_word-2, allocation-else-limit-gt1-via-else-limit-gt1, unary-then-is_not-via-then-is_not, unary-then-is_not-via-else-is_not+then-is_mark}
 

@@ -1,4 +1,4 @@
-use Rattle.std.proofs.Common.{◌≡◌, ◌≤◌, ◌<◌, ◌++◌, ℕ, List, length, map, sym, refl, ap, ◌∙◌, arith}
+use Rattle.std.proofs.Common.{◌≡◌, ◌<◌, ◌++◌, List, length, map, sym, ap, ◌∙◌, arith}
 use Rattle.c_tree.specs.declared.tree.StructDef.{StructDef}
 use Rattle.c_tree.specs.Plain.{Procedure}
 use Rattle.c_tree.specs.View.{proc_view, tree_view}

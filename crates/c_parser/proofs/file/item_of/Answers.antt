@@ -1,4 +1,4 @@
-use Rattle.std.proofs.Common.{sym, refl, ◌∙◌}
+use Rattle.std.proofs.Common.{sym, refl}
 use Rattle.c_parser.proofs.ItemLoops.{bare_by}
 use Rattle.c_parser.proofs.file.item_of.Goals as goal
 

@@ -1,14 +1,11 @@
-use Rattle.std.proofs.Common.{◌≡◌, ◌≤◌, ◌<◌, ℕ, List, [], ◌∷◌, ◌++◌, length, refl, sym, ap, ◌∙◌, Some, None, arith}
+use Rattle.std.proofs.Common.{◌≡◌, ◌<◌, length, refl, sym, ap, ◌∙◌, None, arith}
 use Rattle.std.specs.Prelude.{option_and_then, codes}
-use Rattle.c_tree.specs.declared.tree.Member.{Member}
 use Rattle.c_grammar.specs.Reading.{after_mark}
 use Rattle.c_grammar.specs.ReadItems.{member_closed}
 use Rattle.c_parser.specs.Views.{front_of}
 use Rattle.c_parser.specs.StmtViews.{declared_of}
-use Rattle.c_parser.specs.ItemViews.{members_row}
 use Rattle.c_parser.proofs.Lookups.{mark_shorter}
-use Rattle.c_parser.proofs.Stages.{refused}
-use Rattle.c_parser.proofs.ItemLoops.{prepended, prepended_none, declarator_shorter, declarators_more, declarators_last, declarators_refused}
+use Rattle.c_parser.proofs.ItemLoops.{declarator_shorter, declarators_more, declarators_last}
 use Rattle.c_parser.proofs.items.member.Goals as goal
 
 pub loop-items-smaller : goal.loop-items-smaller

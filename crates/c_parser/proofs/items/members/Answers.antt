@@ -1,9 +1,9 @@
-use Rattle.std.proofs.Common.{◌≡◌, ◌≤◌, ◌<◌, ℕ, List, [], ◌∷◌, ◌++◌, length, refl, sym, ap, ◌∙◌, Some, None, arith}
+use Rattle.std.proofs.Common.{◌≡◌, ◌<◌, length, sym, ◌∙◌, None, arith}
 use Rattle.std.specs.Prelude.{codes}
 use Rattle.c_grammar.specs.Reading.{after_mark}
 use Rattle.c_parser.proofs.StatementLoops.{some_of, none_of}
 use Rattle.c_parser.specs.ItemViews.{members_row}
-use Rattle.c_parser.proofs.ItemLoops.{prepended_none, member_shorter, members_more, members_last, members_refused}
+use Rattle.c_parser.proofs.ItemLoops.{member_shorter, members_more, members_last}
 use Rattle.c_parser.proofs.items.members.Goals as goal
 
 pub loop-items-smaller : goal.loop-items-smaller

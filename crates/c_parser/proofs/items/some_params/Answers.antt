@@ -1,10 +1,10 @@
-use Rattle.std.proofs.Common.{◌≡◌, ◌≤◌, ◌<◌, ℕ, List, [], ◌∷◌, ◌++◌, length, refl, sym, ap, ◌∙◌, Some, None, arith}
+use Rattle.std.proofs.Common.{◌≡◌, ◌<◌, length, sym, ◌∙◌, None, arith}
 use Rattle.std.specs.Prelude.{codes}
 use Rattle.c_grammar.specs.Reading.{after_mark}
 use Rattle.c_parser.specs.Views.{front_of}
 use Rattle.c_parser.specs.StmtViews.{declared_of}
 use Rattle.c_parser.proofs.Lookups.{mark_shorter}
-use Rattle.c_parser.proofs.ItemLoops.{prepended_none, param_shorter, params_more, params_last, params_refused}
+use Rattle.c_parser.proofs.ItemLoops.{param_shorter, params_more, params_last}
 use Rattle.c_parser.proofs.items.some_params.Goals as goal
 
 pub loop-items-smaller : goal.loop-items-smaller

@@ -1,16 +1,14 @@
-use Rattle.std.proofs.Common.{◌≡◌, ◌≤◌, ◌<◌, ℕ, List, length, refl, sym, ap, ◌∙◌, Some, None, arith}
-use Rattle.std.specs.Prelude.{option_and_then, codes}
+use Rattle.std.proofs.Common.{◌≡◌, ◌<◌, length, sym, ap, ◌∙◌, None, arith}
+use Rattle.std.specs.Prelude.{codes}
 use Rattle.c_tree.specs.Plain.{no_stmts}
 use Rattle.c_tree.specs.Plain as tree
-use Rattle.c_tree.specs.View.{stmt_view, stmts_view}
+use Rattle.c_tree.specs.View.{stmts_view}
 use Rattle.c_grammar.specs.Stmts.{joined}
 use Rattle.c_grammar.specs.Reading.{after_mark}
-use Rattle.c_grammar.specs.ReadStmts.{some_locals}
 use Rattle.c_parser.specs.Views.{front_of}
-use Rattle.c_parser.specs.StmtViews.{stmt_part, stmts_row}
+use Rattle.c_parser.specs.StmtViews.{stmt_part}
 use Rattle.c_parser.proofs.Lookups.{mark_shorter}
-use Rattle.c_parser.proofs.Stages.{refused}
-use Rattle.c_parser.proofs.StatementLoops.{local_shorter, locals_more, locals_last, locals_refused, locals_none, view_one}
+use Rattle.c_parser.proofs.StatementLoops.{local_shorter, locals_more, locals_last, locals_none, view_one}
 use Rattle.c_parser.proofs.locals.locals.Goals as goal
 
 pub loop-items-smaller : goal.loop-items-smaller

@@ -1,13 +1,11 @@
-use Rattle.std.proofs.Common.{◌≡◌, ℕ, suc, Bool, sym, refl, ap, ◌∙◌, subst, add-one, Option, Some, None, true, false}
+use Rattle.std.proofs.Common.{◌≡◌, ℕ, sym, ◌∙◌, subst, add-one, true, false}
 use Rattle.c_tree.specs.View.{expr_view}
-use Rattle.c_tree.specs.Plain.{Stmt}
-use Rattle.c_grammar.specs.Parts.{Part}
 use Rattle.c_grammar.specs.ReadExprs.{stage}
 use Rattle.c_grammar.specs.ReadStmts.{from_target}
 use Rattle.c_parser.specs.Views.{expr_part, Gives}
-use Rattle.c_parser.specs.StmtViews.{stmt_part, is_variable, is_call}
+use Rattle.c_parser.specs.StmtViews.{stmt_part, is_variable}
 use Rattle.c_parser.specs.Below.{begins_step}
-use Rattle.c_parser.proofs.Paths.{from_steps, from_variable, from_call, from_other, from_unnamed}
+use Rattle.c_parser.proofs.Paths.{from_steps, from_variable}
 use Rattle.c_parser.proofs.simple.after_primary.Goals as goal
 
 pub returns-then-begins_step : goal.returns-then-begins_step

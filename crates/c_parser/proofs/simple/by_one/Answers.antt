@@ -1,6 +1,6 @@
-use Rattle.std.proofs.Common.{◌≡◌, sym, refl, ap, ◌∙◌, subst, Option, Some, None, true}
+use Rattle.std.proofs.Common.{◌≡◌, sym, ap, ◌∙◌, Some, None, true}
 use Rattle.std.specs.Prelude.{option_map}
-use Rattle.c_tree.specs.Plain.{Expr, Stmt}
+use Rattle.c_tree.specs.Plain.{Stmt}
 use Rattle.c_tree.specs.View.{expr_view}
 use Rattle.c_parser.specs.StmtViews.{path_of}
 use Rattle.c_parser.proofs.Paths.{path_some, step_no_path, step_taken}

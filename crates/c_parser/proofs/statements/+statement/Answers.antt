@@ -1,14 +1,11 @@
-use Rattle.std.proofs.Common.{◌≡◌, ◌≤◌, ◌<◌, ◌-◌, ℕ, suc, List, length, sym, refl, ap, ◌∙◌, subst, Option, Some, None, true, false, arith}
-use Rattle.std.specs.Prelude.{option_and_then, codes}
+use Rattle.std.proofs.Common.{◌≡◌, ◌<◌, suc, length, sym, refl, ap, ◌∙◌, None, arith}
+use Rattle.std.specs.Prelude.{codes}
 use Rattle.c_tree.specs.Plain.{no_stmts}
-use Rattle.c_tree.specs.Plain as tree
-use Rattle.c_tree.specs.View.{stmt_view, stmts_view}
+use Rattle.c_tree.specs.View.{stmts_view}
 use Rattle.c_grammar.specs.Stmts.{joined}
 use Rattle.c_grammar.specs.Reading.{after_mark}
-use Rattle.c_grammar.specs.ReadExprs.{begins_base}
 use Rattle.c_grammar.specs.ReadStmts.{read_stmt, body}
-use Rattle.c_parser.specs.Views.{front_of}
-use Rattle.c_parser.specs.StmtViews.{stmt_part, stmts_row}
+use Rattle.c_parser.specs.StmtViews.{stmts_row}
 use Rattle.c_parser.proofs.Stages.{refused}
 use Rattle.c_parser.proofs.StatementLoops.{view_both, body_more, body_refused, body_end, chunk_shorter, prepended_none, some_of, none_of}
 use Rattle.c_parser.proofs.Paths.{stmt_zero, stmt_below, enclosed_shallow}

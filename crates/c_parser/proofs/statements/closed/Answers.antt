@@ -1,4 +1,4 @@
-use Rattle.std.proofs.Common.{◌≡◌, ◌+◌, ℕ, suc, refl, subst, add-one, Option, Some, None}
+use Rattle.std.proofs.Common.{◌≡◌, ℕ, refl, subst, add-one, Some}
 use Rattle.c_grammar.specs.ReadStmts.{read_simple}
 use Rattle.c_parser.specs.StmtViews.{stmt_part}
 use Rattle.c_parser.proofs.Stages.{refuses}
