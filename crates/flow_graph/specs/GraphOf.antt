@@ -1,14 +1,14 @@
 -- The flow graph of a typed tree.
-use Rattle.std.specs.Prelude.{ℕ, ◌+◌, ◌-◌, ◌%◌, List, [], ◌∷◌, ◌++◌, length, map, take, Bool, Option, Some, None, is_some, option_map, option_and_then, nat_eq, slice_get, if◌then◌else◌}
+use Rattle.std.specs.Prelude.{◌≡◌, ℕ, ◌+◌, ◌-◌, ◌%◌, List, [], ◌∷◌, ◌++◌, length, map, Bool, Option, Some, None, is_some, option_map, option_and_then, nat_eq, slice_get, if◌then◌else◌}
 use Rattle.c_tree.specs.declared.tree.Tree.{Tree}
 use Rattle.c_tree.specs.Plain.{Stmt}
 use Rattle.c_tree.specs.Nodes.{stmt_nodes}
 use Rattle.c_tree.specs.View.{stmt_view}
 use Rattle.c_types.specs.declared.kinds.SlotType.{SlotType}
 use Rattle.c_types.specs.declared.infos.StructInfo.{StructInfo}
-use Rattle.c_types.specs.declared.infos.SlotInfo.{SlotInfo}
 use Rattle.c_types.specs.declared.infos.ProcInfo.{ProcInfo}
 use Rattle.c_types.specs.declared.typed.Typed.{Typed}
+use Rattle.c_types.specs.Fits.{kinds_of, params_of}
 use Rattle.flow_graph.specs.declared.raw.RawEdge.{RawEdge}
 use Rattle.flow_graph.specs.FlowGraph.{Flow, FlowGraph}
 use Rattle.flow_graph.specs.Edges.{body_edges}
@@ -22,15 +22,12 @@ type_count ss = 4 + length ss
 abbrev pub member_types : List StructInfo → List (List SlotType)
 member_types ss = map (λ s. map (λ m. m.kind) s.members) ss
 
-abbrev pub slot_types : List SlotInfo → List SlotType
-slot_types xs = map (λ x. x.kind) xs
-
 -- the numbers in a body whose edges these are: `vars` slots before the temporaries, `texts` strings before each node
 abbrev pub numbering : ℕ → ℕ → Bool → List ℕ → List RawEdge → Numbering
 numbering vars types main texts es = record {
   vars = vars;
   types = types;
-  temps = ranks (temp_keys types es);
+  temps = sorted (temp_keys types es);
   places = ranks (place_keys es);
   end = 1 + length (sorted (place_keys es));
   exit = length (places_of main es) - 1;
@@ -43,9 +40,9 @@ temp_types types es = map (λ k. type_of_code (k % types)) (sorted (temp_keys ty
 -- a procedure with a body, given its edges
 abbrev pub body_flow : ℕ → Bool → List ℕ → ProcInfo → List RawEdge → Flow
 body_flow types main texts p es = record {
-  params = take p.params (slot_types p.slots);
+  params = params_of p;
   result = p.result;
-  slots = slot_types p.slots ++ temp_types types es;
+  slots = kinds_of p.slots ++ temp_types types es;
   ret = if is_some p.result then Some (length p.slots - 1) else None;
   places = places_of main es;
   edges = edge_rows (numbering (length p.slots) types main texts es) es (length (places_of main es));
@@ -54,7 +51,7 @@ body_flow types main texts p es = record {
 -- a procedure without a body
 abbrev pub external_flow : ProcInfo → Flow
 external_flow p = record {
-  params = take p.params (slot_types p.slots);
+  params = params_of p;
   result = p.result;
   slots = [];
   ret = None;
@@ -95,3 +92,8 @@ graph_of_parts t ss ps bodies main = record {
 
 abbrev pub graph_of : Typed → FlowGraph
 graph_of t = graph_of_parts t.tree t.structs t.procs t.bodies t.main_proc
+
+-- it is the graph of a typed tree
+pub record IsTypedGraph (g : FlowGraph) : Type 0 where
+  pub typed : Typed
+  pub is : g ≡ graph_of typed

@@ -5,4 +5,3 @@ pub mod Edges
 pub mod Numbers
 pub mod Strings
 pub mod GraphOf
-pub mod Tests

@@ -8,7 +8,7 @@ use Rattle.flow_graph.specs.declared.raw.Slot.{Slot}
 use Rattle.flow_graph.specs.declared.raw.Slot.TheVariants as slot
 use Rattle.flow_graph.specs.declared.raw.RawAction.{RawAction}
 use Rattle.flow_graph.specs.declared.raw.RawEdge.{RawEdge}
-use Rattle.flow_graph.specs.FlowGraph.{is_pointer}
+use Rattle.c_types.specs.Types.{is_pointer}
 
 pub record Part : Type 0 where
   -- the place at which it begins

@@ -1,13 +1,16 @@
 ghost use Rattle.std.specs.Prelude.{◌≡◌, ◌<◌, ◌^◌, ◌%◌, ◌∷◌, ◌++◌, [], map, length, take, option_map, OnOk, IfOk};
 ghost use Rattle.c_tree.specs.Nodes.{stmt_nodes, stmt_count, body_count, tree_size};
 ghost use Rattle.c_tree.specs.View.{stmt_view, tree_view};
+ghost use Rattle.c_types.specs.Fits.{kinds_of, params_of};
+ghost use Rattle.std.specs.List.{All};
+ghost use Rattle.flow_graph.specs.Fits.{ConstantsFit};
 ghost use Rattle.flow_graph.specs.Numbers.{type_of_code, place_of_key, last_places, places_of, sorted, ranks};
 ghost use Rattle.flow_graph.specs.Strings.{strings, string_numbers};
-ghost use Rattle.flow_graph.specs.GraphOf.{member_types, slot_types, numbering, temp_types, body_flow, external_flow, flow_of_proc, strings_of, body_of, flows_from, all_strings};
+ghost use Rattle.flow_graph.specs.GraphOf.{member_types, numbering, temp_types, body_flow, external_flow, flow_of_proc, strings_of, body_of, flows_from, all_strings};
 
 use crate::graph::{Flow, SlotTypes};
-use crate::keys::{mark, ranks, sorted};
-use crate::numbering::{Numbering, place_keys, temp_keys};
+use crate::keys::{in_order, mark, ranks, sorted};
+use crate::numbering::{Numbering, place_keys, small, temp_keys};
 use crate::raw::RawEdge;
 use crate::stmts::body_edges;
 use crate::strings::{Strings, see_stmt};
@@ -41,8 +44,8 @@ pub(crate) fn member_types(alloc: Global, structs: &[StructInfo]) -> Result<Vec<
 }
 
 /// The types of slots.
-fn slot_types(alloc: Global, slots: &[SlotInfo]) -> Result<Vec<SlotType>, Memory>
-    ensures { IfOk result (λ ts. ts.items ≡ slot_types slots.now) }
+fn kinds_of(alloc: Global, slots: &[SlotInfo]) -> Result<Vec<SlotType>, Memory>
+    ensures { IfOk result (λ ts. ts.items ≡ kinds_of slots.now) }
 {
     let mut kinds = Vec::new(alloc);
     for x in slots {
@@ -117,7 +120,7 @@ struct Order {
     pub ranks: Vec<u32>,
 }
 
-fn in_order(alloc: Global, keys: &[usize]) -> Result<Order, Memory>
+fn order_of(alloc: Global, keys: &[usize]) -> Result<Order, Memory>
     ensures sorted { IfOk result (λ o. o.sorted.items ≡ sorted keys.now) }
     ensures ranks { IfOk result (λ o. o.ranks.items ≡ ranks keys.now) }
 {
@@ -129,9 +132,9 @@ fn in_order(alloc: Global, keys: &[usize]) -> Result<Order, Memory>
 
 /// The types of the parameters.
 fn param_types(alloc: Global, info: &ProcInfo) -> Result<Vec<SlotType>, Memory>
-    ensures { IfOk result (λ ts. ts.items ≡ take info.now.params (slot_types info.now.slots)) }
+    ensures { IfOk result (λ ts. ts.items ≡ params_of info.now) }
 {
-    let mut params = slot_types(alloc, info.slots.items.as_slice())?;
+    let mut params = kinds_of(alloc, info.slots.items.as_slice())?;
     params.truncate(info.params as usize);
     Ok(params)
 }
@@ -144,20 +147,11 @@ fn all_slot_types(
     keys: &[usize],
 ) -> Result<Vec<SlotType>, Memory>
     requires { 0 < types }
-    ensures { IfOk result (λ ts. ts.items ≡ slot_types info.now.slots ++ map (λ k. type_of_code (k % types)) keys.now) }
+    ensures { IfOk result (λ ts. ts.items ≡ kinds_of info.now.slots ++ map (λ k. type_of_code (k % types)) keys.now) }
 {
-    let mut slots = slot_types(alloc, info.slots.items.as_slice())?;
+    let mut slots = kinds_of(alloc, info.slots.items.as_slice())?;
     push_temp_types(types, keys, &mut slots)?;
     Ok(slots)
-}
-
-fn small(number: usize) -> Result<u32, Memory>
-    ensures { IfOk result (λ n. n ≡ number) }
-{
-    match u32::try_from(number) {
-        Ok(number) => Ok(number),
-        Err(_) => Err(Memory),
-    }
 }
 
 /// A procedure without a body.
@@ -193,23 +187,17 @@ fn tables_of(
 ) -> Result<Tables, Memory>
     requires { 0 < types }
     ensures places { IfOk result (λ t. t.places.items ≡ places_of main edges.now) }
-    ensures slots { IfOk result (λ t. t.slots.items ≡ slot_types info.now.slots ++ temp_types types edges.now) }
+    ensures slots { IfOk result (λ t. t.slots.items ≡ kinds_of info.now.slots ++ temp_types types edges.now) }
     ensures numbers { IfOk result (λ t. t.numbers ≡ numbering (length info.now.slots) types main texts.items edges.now) }
 {
-    let place_keys = place_keys(alloc, edges)?;
-    let of_places = in_order(alloc, place_keys.as_slice())?;
-    let temp_keys = temp_keys(alloc, types, edges)?;
-    let of_temps = in_order(alloc, temp_keys.as_slice())?;
-    let places = places_of(alloc, main, of_places.sorted.as_slice())?;
+    let keys = place_keys(alloc, edges)?;
+    let Order { sorted, ranks } = order_of(alloc, keys.as_slice())?;
+    let temps = in_order(temp_keys(alloc, types, edges)?);
+    let places = places_of(alloc, main, sorted.as_slice())?;
     let vars = small(info.slots.items.as_slice().len())?;
-    let end = small(of_places.sorted.as_slice().len() + 1)?;
+    let end = small(sorted.as_slice().len() + 1)?;
     let exit = small(places.as_slice().len() - 1)?;
-    let slots = all_slot_types(alloc, types, info, of_temps.sorted.as_slice())?;
-    let Order {
-        sorted: _,
-        ranks: temps,
-    } = of_temps;
-    let Order { sorted: _, ranks } = of_places;
+    let slots = all_slot_types(alloc, types, info, temps.as_slice())?;
     let numbers = Numbering {
         vars,
         types,
@@ -236,7 +224,8 @@ fn body_flow(
     edges: &[RawEdge],
 ) -> Result<Flow, Memory>
     requires { 0 < types }
-    ensures { IfOk result (λ f. f ≡ body_flow types main texts.items info.now edges.now) }
+    ensures flow { IfOk result (λ f. f ≡ body_flow types main texts.items info.now edges.now) }
+    ensures constants { IfOk result (λ f. ConstantsFit f) }
 {
     let Tables {
         places,
@@ -291,6 +280,7 @@ fn flow_with_body(
     requires types { 0 < types }
     requires fits { stmt_count (stmt_view s.now) < 2 ^ 32 }
     ensures flow { IfOk result (λ f. f ≡ flow_of_proc types main (length seen.old.texts) info.now (Some (stmt_view s.now))) }
+    ensures constants { IfOk result (λ f. ConstantsFit f) }
     ensures texts { OnOk result (seen.new.texts ≡ seen.old.texts ++ strings (stmt_nodes (stmt_view s.now))) }
 {
     let edges = body_edges(alloc, main, info.nodes.items.as_slice(), s)?;
@@ -310,6 +300,7 @@ fn flow_of_item(
     requires types { 0 < types }
     requires fits { body_count (option_map stmt_view body.now) < 2 ^ 32 }
     ensures flow { IfOk result (λ f. f ≡ flow_of_proc types main (length seen.old.texts) info.now (option_map stmt_view body.now)) }
+    ensures constants { IfOk result (λ f. ConstantsFit f) }
     ensures texts { OnOk result (seen.new.texts ≡ seen.old.texts ++ strings_of (option_map stmt_view body.now)) }
 {
     match body {
@@ -330,6 +321,7 @@ fn flow_of_proc(
     requires types { 0 < types }
     requires fits { tree_size (tree_view tree.now) < 2 ^ 32 }
     ensures flow { IfOk result (λ f. f ≡ flow_of_proc types main (length seen.old.texts) info.now (body_of tree.now info.now)) }
+    ensures constants { IfOk result (λ f. ConstantsFit f) }
     ensures texts { OnOk result (seen.new.texts ≡ seen.old.texts ++ strings_of (body_of tree.now info.now)) }
 {
     let items = tree.procs.as_slice();
@@ -353,6 +345,7 @@ pub(crate) fn flows(
     requires fits { tree_size (tree_view tree.now) < 2 ^ 32 }
     requires none { seen.old.texts ≡ [] }
     ensures flows { IfOk result (λ fs. fs.items ≡ flows_from tree.now types main 0 0 procs.now) }
+    ensures constants { IfOk result (λ fs. All ConstantsFit fs.items) }
     ensures texts { OnOk result (seen.new.texts ≡ all_strings tree.now procs.now) }
 {
     let mut flows = Vec::new(alloc);

@@ -6,11 +6,9 @@
 #![tactic(auto)]
 
 mod action;
-mod action_test;
 mod exprs;
 mod flows;
 mod graph;
-mod graph_test;
 mod keys;
 mod nodes;
 mod numbering;

@@ -1,19 +1,9 @@
 ghost use Rattle.std.specs.Prelude.{◌≡◌, ◌≤◌, OnOk, IfOk};
-ghost use Rattle.flow_graph.specs.FlowGraph.{is_pointer};
 ghost use Rattle.flow_graph.specs.Parts.{kind_at, type_at, refers_at, is_pointer_at, var_at, temp, same_var, one, two};
 
 use crate::raw::{RawAction, RawEdge, Slot};
 use c_tree::{Memory, Place};
 use c_types::{NodeInfo, SlotType};
-
-pub(crate) fn is_pointer(kind: SlotType) -> bool
-    ensures { result ≡ is_pointer kind }
-{
-    match kind {
-        SlotType::Int | SlotType::Char => false,
-        SlotType::IntPtr | SlotType::CharPtr | SlotType::StructPtr(_) => true,
-    }
-}
 
 /// The type of the node's value, where it has one.
 pub(crate) fn kind_at(infos: &[NodeInfo], n: u32) -> Option<SlotType>
@@ -51,7 +41,7 @@ pub(crate) fn refers_at(infos: &[NodeInfo], n: u32) -> u32
 pub(crate) fn is_pointer_at(infos: &[NodeInfo], n: u32) -> bool
     ensures { result ≡ is_pointer_at infos.now n }
 {
-    is_pointer(type_at(infos, n))
+    type_at(infos, n).is_pointer()
 }
 
 /// The variable that the node names.

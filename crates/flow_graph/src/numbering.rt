@@ -1,9 +1,7 @@
 ghost use Rattle.std.specs.Prelude.{◌≡◌, ◌++◌, slice_index_or, OnOk, IfOk};
 ghost use Rattle.flow_graph.specs.Numbers.{keys_of_place, place_keys, type_code, temp_key, keys_of_slot, slots_in, temp_keys, named_slots, slot_number, place_number, count_number, action_number, edge_number, edge_rows};
 
-use crate::action::{Action, Count, Edge};
-use crate::graph::Edges;
-use crate::numbers::Numbers;
+use crate::keys::below;
 use crate::raw::{RawAction, RawEdge, Slot};
 use c_tree::{Memory, Place};
 use c_types::SlotType;
@@ -17,8 +15,8 @@ pub(crate) struct Numbering {
     pub vars: u32,
     /// How many types there are.
     pub types: usize,
-    /// The number among the temporaries, by key.
-    pub temps: Vec<u32>,
+    /// The keys of the temporaries, ascending and each once.
+    pub temps: Vec<usize>,
     /// The number among the places of nodes, by key.
     pub places: Vec<u32>,
     pub end: u32,
@@ -28,7 +26,8 @@ pub(crate) struct Numbering {
 }
 
 impl Model for Numbering {
-    ghost use Rattle.flow_graph.specs.Numbers.{Numbering as Plain};
+    ghost use Rattle.std.specs.Prelude.{◌≡◌};
+    ghost use Rattle.flow_graph.specs.Numbers.{Numbering as Plain, sorted};
 
     ghost Value = { Plain };
 
@@ -41,6 +40,8 @@ impl Model for Numbering {
       exit = n.exit;
       texts = n.texts.items;
     } };
+
+    ghost invariant = { λ n. sorted n.temps.items ≡ n.temps.items };
 }
 
 /// Appends the key of a place, where it is one of a node.
@@ -175,6 +176,15 @@ pub(crate) fn temp_keys(
     Ok(keys)
 }
 
+pub(crate) fn small(number: usize) -> Result<u32, Memory>
+    ensures { IfOk result (λ n. n ≡ number) }
+{
+    match u32::try_from(number) {
+        Ok(number) => Ok(number),
+        Err(_) => Err(Memory),
+    }
+}
+
 /// The number in a table; 0 past its end.
 pub(crate) fn number_at(table: &[u32], key: usize) -> u32
     ensures { result ≡ slice_index_or table.now key 0 }
@@ -193,8 +203,8 @@ pub(crate) fn slot_number(ns: &Numbering, x: Slot) -> Result<u32, Memory>
         Slot::Ret => Ok(ns.vars.saturating_sub(1)),
         Slot::Temp(k, kind) => {
             let key = temp_key(ns.types, k, kind)?;
-            let temps = ns.temps.as_slice();
-            match ns.vars.checked_add(number_at(temps, key)) {
+            let lower = small(below(ns.temps.as_slice(), key))?;
+            match ns.vars.checked_add(lower) {
                 Some(number) => Ok(number),
                 None => Err(Memory),
             }

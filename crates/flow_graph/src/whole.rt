@@ -1,11 +1,12 @@
 ghost use Rattle.std.specs.Prelude.{◌≡◌, ◌≤◌, length, IfOk};
 ghost use Rattle.c_tree.specs.Nodes.{tree_size};
 ghost use Rattle.c_tree.specs.View.{tree_view};
+ghost use Rattle.std.specs.List.{All};
+ghost use Rattle.flow_graph.specs.Fits.{ConstantsFit, IsFlowGraph};
 ghost use Rattle.flow_graph.specs.GraphOf.{graph_of, graph_of_parts};
 
 use crate::flows::{flows, member_types};
 use crate::graph::{Graph, Parts};
-use crate::graph_test::graph_fits;
 use crate::strings::Strings;
 use c_tree::{Memory, Tree};
 use c_types::{ProcInfo, StructInfo, Typed};
@@ -21,7 +22,8 @@ pub(crate) fn parts(
     main_proc: u32,
 ) -> Result<Parts, Memory>
     requires { tree_size (tree_view tree.now) ≤ 16777216 }
-    ensures { IfOk result (λ p. p ≡ graph_of_parts tree.now structs.now procs.now bodies main_proc) }
+    ensures parts { IfOk result (λ p. p ≡ graph_of_parts tree.now structs.now procs.now bodies main_proc) }
+    ensures constants { IfOk result (λ p. All ConstantsFit p.procs) }
 {
     let rows = member_types(alloc, structs)?;
     let mut seen = Strings {
@@ -46,13 +48,12 @@ pub(crate) fn parts(
     })
 }
 
-/// The graph of these parts; want of memory where they lack what every flow graph keeps.
-fn graph(parts: Parts) -> Result<Graph, Memory>
-    ensures { IfOk result (λ g. g ≡ parts) }
+/// The graph of a typed tree, of whose parts this is made.
+fn graph(typed: &Typed, parts: Parts) -> Graph
+    requires built { parts ≡ graph_of typed.now }
+    requires constants { All ConstantsFit parts.procs }
+    ensures { result ≡ parts }
 {
-    if !graph_fits(&parts) {
-        return Err(Memory);
-    }
     let Parts {
         structs,
         procs,
@@ -60,27 +61,27 @@ fn graph(parts: Parts) -> Result<Graph, Memory>
         main_proc,
         texts,
     } = parts;
-    Ok(Graph {
+    Graph {
         structs,
         procs,
         bodies,
         main_proc,
         texts,
-    })
+    }
 }
 
 /// The flow graph of a typed tree.
 ///
 /// The places of a procedure are its entry, then the sub-steps of nodes at which edges start or end, ascending, then
 /// the end of `main`, then the exit; its slots are those of the tree, then the temporaries that edges name, in order
-/// of position and type. Strings are numbered in order of procedure and node. The work grows with nodes, edges and
-/// the nodes' depth. The one refusal is want of memory.
+/// of position and type. Strings are numbered in order of procedure and node. The one refusal is want of memory.
 pub fn build(alloc: Global, typed: &Typed) -> Result<Graph, Memory>
-    ensures { IfOk result (λ g. g ≡ graph_of typed.now) }
+    ensures graph { IfOk result (λ g. g ≡ graph_of typed.now) }
+    ensures keeps { IfOk result (λ g. IsFlowGraph g) }
 {
     let tree = &typed.tree;
     let structs = typed.structs.items.as_slice();
     let procs = typed.procs.items.as_slice();
     let parts = parts(alloc, tree, structs, procs, typed.bodies, typed.main_proc)?;
-    graph(parts)
+    Ok(graph(typed, parts))
 }

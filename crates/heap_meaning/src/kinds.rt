@@ -1,5 +1,6 @@
 ghost use Rattle.std.specs.Prelude.{◌≡◌, ◌<◌};
-ghost use Rattle.flow_graph.specs.FlowGraph.{slot_type, members_of, is_pointer};
+ghost use Rattle.c_types.specs.Types.{is_pointer};
+ghost use Rattle.flow_graph.specs.FlowGraph.{slot_type, members_of};
 ghost use Rattle.heap_meaning.specs.Reads.{cell_type};
 ghost use Rattle.heap_meaning.specs.Run.{put_as, first_cell};
 

@@ -1,7 +1,8 @@
 ghost use Rattle.std.specs.Prelude.{◌≡◌, ◌+◌, ◌*◌, ◌<◌, ◌≤◌, ◌^◌, ℕ, length, IfOk};
 ghost use Rattle.std.specs.List.{All};
 ghost use Rattle.std.specs.List.Sorted.{IsStrictlyIncreasing};
-ghost use Rattle.flow_graph.specs.FlowGraph.{flow_of, is_pointer};
+ghost use Rattle.c_types.specs.Types.{is_pointer};
+ghost use Rattle.flow_graph.specs.FlowGraph.{flow_of};
 ghost use Rattle.flow_graph.specs.Fits.{pointer_count};
 ghost use Rattle.owner_vars.specs.Unknowns.{field_count, returns_pointer};
 ghost use Rattle.owner_vars.specs.Tables.{HasRange, ranges_of, range_behind, interface_size, face_of, faces_of, faces_end, slot_rows, slots_width, rows_of, all_rows, rows_end};
