@@ -2,3 +2,4 @@ pub mod FoundLemmas
 pub mod CallLemmas
 pub mod OrderLemmas
 pub mod Unique
+pub mod Each
