@@ -1,11 +1,11 @@
 //! The check of a whole tree.
 
-ghost use Rattle.std.specs.Prelude.{◌≡◌, ◌≤◌, ◌⊎◌, Some, None, map, IfOk, IfErr, OnOk};
-ghost use Rattle.std.specs.List.{list_any};
+ghost use Rattle.std.specs.Prelude.{◌≡◌, ◌≤◌, ◌⊎◌, Some, None, map, codes, bytes_eq, IfOk, IfErr, OnOk};
+ghost use Rattle.std.specs.List.{list_any, position_or_len};
 ghost use Rattle.c_tree.specs.View.{proc_view, tree_view};
 ghost use Rattle.c_tree.specs.Nodes.{tree_size};
 ghost use Rattle.c_tree.specs.Formed.{IsFormed};
-ghost use Rattle.c_types.specs.Breaches.{soonest};
+ghost use Rattle.c_types.specs.Breaches.{soonest, sooner};
 ghost use Rattle.c_types.specs.Declarations.{struct_infos};
 ghost use Rattle.c_types.specs.Items.{is_int, is_main, proc_infos, body_count, main_number, has_main, limit_passed, tree_breaches, refused_for, refusal_of};
 ghost use Rattle.c_types.specs.declared.error.TypeError.TheVariants.{Memory as want_of_memory};
@@ -13,7 +13,7 @@ ghost use Rattle.c_types.specs.declared.error.TypeError.TheVariants.{Memory as w
 use crate::declarations::declarations;
 use crate::error::TypeError;
 use crate::infos::{ProcInfos, StructInfos};
-use crate::items::{check_procs, check_structs};
+use crate::items::{Procs, check_procs, check_structs};
 use crate::limits::limit_passed;
 use crate::rules::{Breach, sooner};
 use crate::tables::Tables;
@@ -67,6 +67,24 @@ struct Checked {
     first: Option<Breach>,
 }
 
+/// What a tree is that has these tables and procedures, where that is the first rule that its structs
+/// break.
+fn checked_tree(tables: Tables, procs: Procs, own: Option<Breach>) -> Checked
+    ensures structs { result.structs ≡ tables.entry.structs }
+    ensures procs { result.procs ≡ procs.infos.items }
+    ensures bodies { result.bodies ≡ tables.entry.bodies }
+    ensures main { result.main_proc ≡ position_or_len (bytes_eq (codes "main")) tables.entry.procs }
+    ensures first { result.first ≡ sooner own procs.first }
+{
+    Checked {
+        main_proc: tables.procs.place(MAIN),
+        bodies: tables.bodies,
+        structs: tables.structs,
+        procs: ProcInfos { items: procs.infos },
+        first: sooner(own, procs.first),
+    }
+}
+
 #[tactic(auto, unfolding(crate::specs::Items::tree_breaches, crate::specs::Items::proc_infos, crate::specs::Declarations::body_names))]
 fn check_tree(alloc: Global, tree: &Tree) -> Result<Checked, Memory>
     ensures structs { IfOk result (λ r. r.structs ≡ struct_infos (tree_view tree.now)) }
@@ -75,28 +93,10 @@ fn check_tree(alloc: Global, tree: &Tree) -> Result<Checked, Memory>
     ensures main { IfOk result (λ r. r.main_proc ≡ main_number (tree_view tree.now)) }
     ensures first { IfOk result (λ r. r.first ≡ tree_breaches soonest (tree_view tree.now)) }
 {
-    let tables = declarations(alloc, tree)?;
     let own = check_structs(alloc, tree.structs.as_slice())?;
-    let checked = check_procs(alloc, &tables, tree.procs.as_slice())?;
-    let main_proc = tables.procs.place(MAIN);
-    let Tables {
-        tags: _,
-        defined: _,
-        structs,
-        procs: _,
-        bodies,
-        declared: _,
-        signatures: _,
-    } = tables;
-    Ok(Checked {
-        structs,
-        procs: ProcInfos {
-            items: checked.infos,
-        },
-        bodies,
-        main_proc,
-        first: sooner(own, checked.first),
-    })
+    let tables = declarations(alloc, tree)?;
+    let procs = check_procs(alloc, &tables, tree.procs.as_slice())?;
+    Ok(checked_tree(tables, procs, own))
 }
 
 /// The first refusal, in their order: a broken rule, no main, a limit.

@@ -1,9 +1,9 @@
 //! The tables of what a file declares.
 
-ghost use Rattle.std.specs.Prelude.{◌≡◌, [], ◌++◌, map, drop, slice_get, IfOk, OnOk};
+ghost use Rattle.std.specs.Prelude.{◌≡◌, [], ◌∷◌, ◌++◌, length, map, drop, slice_get, if◌then◌else◌, IfOk, OnOk};
 ghost use Rattle.c_tree.specs.View.{proc_view, tree_view};
-ghost use Rattle.c_types.specs.Names.{with_names};
-ghost use Rattle.c_types.specs.Declarations.{member_info, member_infos, fields_with, fields_after, struct_info, defined_infos, named_info, with_body, with_bodies, params_types, result_type, signature, signatures_from, declarations};
+ghost use Rattle.c_types.specs.Names.{has_name, with_name, with_names};
+ghost use Rattle.c_types.specs.Declarations.{member_info, member_infos, fields_with, fields_after, struct_info, defined_infos, named_info, with_body, with_bodies, params_types, result_type, signature, signatures_from, defined_tags, struct_tags, struct_infos, declarations};
 
 use crate::infos::{MemberInfo, MemberInfos, StructInfo, StructInfos};
 use crate::kinds::{SlotType, SlotTypes};
@@ -104,8 +104,61 @@ fn numbered_members(
     Ok((MemberInfos { items }, next))
 }
 
+/// A struct that has a definition, where so many pointer fields stand before it, and how many there
+/// are after it.
+fn defined_struct(
+    alloc: Global,
+    tags: &Names,
+    fields: u32,
+    d: &StructDef,
+) -> Result<(StructInfo, u32), Memory>
+    ensures info { IfOk result (λ r. r.0 ≡ struct_info tags.now fields d.now) }
+    ensures fields { IfOk result (λ r. r.1 ≡ fields_after tags.now fields d.now.members) }
+{
+    let tag = copy_of(alloc, d.tag.items.as_slice())?;
+    let (members, next) = numbered_members(alloc, tags, fields, d.members.as_slice())?;
+    Ok((StructInfo { tag, members }, next))
+}
+
+/// Adds that struct, and says how many pointer fields there are after it.
+fn add_defined(
+    alloc: Global,
+    tags: &Names,
+    fields: u32,
+    d: &StructDef,
+    infos: &mut Vec<StructInfo>,
+) -> Result<u32, Memory>
+    ensures infos { OnOk result (infos.new.items ≡ infos.old.items ++ struct_info tags.now fields d.now ∷ []) }
+    ensures fields { IfOk result (λ next. next ≡ fields_after tags.now fields d.now.members) }
+{
+    let (info, next) = defined_struct(alloc, tags, fields, d)?;
+    infos.push(info)?;
+    Ok(next)
+}
+
+/// Adds that struct where it is the first of its tag, and says how many pointer fields there are after
+/// it.
+fn add_first<'t>(
+    alloc: Global,
+    tags: &Names,
+    seen: &mut Names<'t>,
+    fields: u32,
+    d: &'t StructDef,
+    infos: &mut Vec<StructInfo>,
+) -> Result<u32, Memory>
+    ensures seen { OnOk result (seen.new ≡ with_name seen.old d.now.tag) }
+    ensures infos { OnOk result (infos.new.items ≡ infos.old.items ++ (if has_name seen.old d.now.tag then [] else struct_info tags.now fields d.now ∷ [])) }
+    ensures fields { IfOk result (λ next. next ≡ (if has_name seen.old d.now.tag then fields else fields_after tags.now fields d.now.members)) }
+{
+    if seen.add(d.tag.items.as_slice())? {
+        add_defined(alloc, tags, fields, d, infos)
+    } else {
+        Ok(fields)
+    }
+}
+
 /// The structs that have a definition; of two definitions of one tag the first counts.
-#[tactic(auto, using(crate::proofs::Declares::defined_infos_at))]
+#[tactic(auto, using(crate::proofs::Declares::defined_infos_step))]
 fn defined_structs(
     alloc: Global,
     tags: &Names,
@@ -117,13 +170,7 @@ fn defined_structs(
     let mut infos = Vec::new(alloc);
     let mut fields = 0;
     for d in structs {
-        let tag = d.tag.items.as_slice();
-        if seen.add(tag)? {
-            let (members, next) = numbered_members(alloc, tags, fields, d.members.as_slice())?;
-            let tag = copy_of(alloc, tag)?;
-            infos.push(StructInfo { tag, members })?;
-            fields = next;
-        }
+        fields = add_first(alloc, tags, &mut seen, fields, d, &mut infos)?;
     }
     Ok(infos)
 }
@@ -186,6 +233,20 @@ pub(crate) fn signature(alloc: Global, tags: &Names, p: &ProcItem) -> Result<Sig
     })
 }
 
+/// Adds what a procedure's item says.
+fn add_signature(
+    alloc: Global,
+    tags: &Names,
+    p: &ProcItem,
+    signatures: &mut Vec<Signature>,
+) -> Result<(), Memory>
+    ensures { OnOk result (signatures.new.items ≡ signatures.old.items ++ signature tags.now (proc_view p.now) ∷ []) }
+{
+    let own = signature(alloc, tags, p)?;
+    signatures.push(own)?;
+    Ok(())
+}
+
 /// What the first prototype or body of each name says.
 #[tactic(auto, using(crate::proofs::Declares::signatures_at))]
 fn first_signatures(alloc: Global, tags: &Names, procs: &[ProcItem]) -> Result<Signatures, Memory>
@@ -195,37 +256,143 @@ fn first_signatures(alloc: Global, tags: &Names, procs: &[ProcItem]) -> Result<S
     let mut items = Vec::new(alloc);
     for p in procs {
         if seen.add(p.name.items.as_slice())? {
-            items.push(signature(alloc, tags, p)?)?;
+            add_signature(alloc, tags, p, &mut items)?;
         }
     }
     Ok(Signatures { items })
 }
 
-/// What the declarations of a file say.
-#[tactic(auto, unfolding(crate::specs::Declarations::defined_tags, crate::specs::Declarations::struct_tags, crate::specs::Declarations::struct_infos, crate::specs::Declarations::body_names, crate::specs::Declarations::proc_names, crate::specs::Declarations::declared_names, crate::specs::Declarations::signatures))]
-pub(crate) fn declarations<'t>(alloc: Global, tree: &'t Tree) -> Result<Tables<'t>, Memory>
-    ensures { IfOk result (λ tables. tables ≡ declarations (tree_view tree.now)) }
+/// The tags of all structs, how many of these have a definition, and the structs, by number.
+#[derive(Drop)]
+struct StructTables<'t> {
+    tags: Names<'t>,
+    defined: u32,
+    structs: StructInfos,
+}
+
+/// The tags of all structs by number, and how many of these have a definition.
+#[tactic(auto, unfolding(crate::specs::Declarations::defined_tags, crate::specs::Declarations::struct_tags))]
+fn struct_tags<'t>(alloc: Global, tree: &'t Tree) -> Result<(Names<'t>, u32), Memory>
+    ensures tags { IfOk result (λ r. r.0 ≡ struct_tags (tree_view tree.now)) }
+    ensures defined { IfOk result (λ r. r.1 ≡ length (defined_tags (tree_view tree.now))) }
 {
     let mut tags = Names::new(alloc);
     add_tags(&mut tags, tree.structs.as_slice())?;
     let defined = tags.len();
     add_file(&mut tags, tree.structs.as_slice(), tree.procs.as_slice())?;
-    let mut infos = defined_structs(alloc, &tags, tree.structs.as_slice())?;
-    add_named(alloc, &tags, defined, &mut infos)?;
-    let mut procs = Names::new(alloc);
-    add_bodies(&mut procs, tree.procs.as_slice())?;
-    let bodies = procs.len();
-    add_names(&mut procs, tree.procs.as_slice())?;
-    let mut declared = Names::new(alloc);
-    add_names(&mut declared, tree.procs.as_slice())?;
-    let signatures = first_signatures(alloc, &tags, tree.procs.as_slice())?;
-    Ok(Tables {
+    Ok((tags, defined))
+}
+
+/// The structs by number, where these are all tags, of which so many have a definition.
+fn structs_by_number(
+    alloc: Global,
+    tags: &Names,
+    defined: u32,
+    structs: &[StructDef],
+) -> Result<StructInfos, Memory>
+    ensures { IfOk result (λ r. r ≡ defined_infos tags.now [] 0 structs.now ++ map named_info (drop defined tags.now)) }
+{
+    let mut items = defined_structs(alloc, tags, structs)?;
+    add_named(alloc, tags, defined, &mut items)?;
+    Ok(StructInfos { items })
+}
+
+/// What the structs of a file say.
+#[tactic(auto, unfolding(crate::specs::Declarations::struct_infos))]
+fn struct_tables<'t>(alloc: Global, tree: &'t Tree) -> Result<StructTables<'t>, Memory>
+    ensures tags { IfOk result (λ r. r.tags ≡ struct_tags (tree_view tree.now)) }
+    ensures defined { IfOk result (λ r. r.defined ≡ length (defined_tags (tree_view tree.now))) }
+    ensures structs { IfOk result (λ r. r.structs ≡ struct_infos (tree_view tree.now)) }
+{
+    let (tags, defined) = struct_tags(alloc, tree)?;
+    let structs = structs_by_number(alloc, &tags, defined, tree.structs.as_slice())?;
+    Ok(StructTables {
         tags,
         defined,
-        structs: StructInfos { items: infos },
-        procs,
+        structs,
+    })
+}
+
+/// The names of all procedures by number, how many of them have a body, the same names in order of
+/// their first prototype or body, and what these say.
+#[derive(Drop)]
+struct ProcTables<'t> {
+    procs: Names<'t>,
+    bodies: u32,
+    declared: Names<'t>,
+    signatures: Signatures,
+}
+
+/// The names of all procedures by number, and how many have a body.
+fn proc_names<'t>(alloc: Global, procs: &'t [ProcItem]) -> Result<(Names<'t>, u32), Memory>
+    ensures names { IfOk result (λ r. r.0 ≡ with_names (with_bodies [] (map proc_view procs.now)) (map (λ p. p.name) (map proc_view procs.now))) }
+    ensures bodies { IfOk result (λ r. r.1 ≡ length (with_bodies [] (map proc_view procs.now))) }
+{
+    let mut names = Names::new(alloc);
+    add_bodies(&mut names, procs)?;
+    let bodies = names.len();
+    add_names(&mut names, procs)?;
+    Ok((names, bodies))
+}
+
+/// The names of all procedures, in order of their first prototype or body.
+fn declared_names<'t>(alloc: Global, procs: &'t [ProcItem]) -> Result<Names<'t>, Memory>
+    ensures { IfOk result (λ names. names ≡ with_names [] (map (λ p. p.name) (map proc_view procs.now))) }
+{
+    let mut names = Names::new(alloc);
+    add_names(&mut names, procs)?;
+    Ok(names)
+}
+
+/// What the procedures of a file say, where these are the tags of all structs.
+fn proc_tables<'t>(
+    alloc: Global,
+    tags: &Names,
+    procs: &'t [ProcItem],
+) -> Result<ProcTables<'t>, Memory>
+    ensures procs { IfOk result (λ r. r.procs ≡ with_names (with_bodies [] (map proc_view procs.now)) (map (λ p. p.name) (map proc_view procs.now))) }
+    ensures bodies { IfOk result (λ r. r.bodies ≡ length (with_bodies [] (map proc_view procs.now))) }
+    ensures declared { IfOk result (λ r. r.declared ≡ with_names [] (map (λ p. p.name) (map proc_view procs.now))) }
+    ensures signatures { IfOk result (λ r. r.signatures ≡ signatures_from tags.now [] (map proc_view procs.now)) }
+{
+    let (names, bodies) = proc_names(alloc, procs)?;
+    let declared = declared_names(alloc, procs)?;
+    let signatures = first_signatures(alloc, tags, procs)?;
+    Ok(ProcTables {
+        procs: names,
         bodies,
         declared,
         signatures,
     })
+}
+
+/// Both tables in one.
+fn tables_of<'t>(structs: StructTables<'t>, procs: ProcTables<'t>) -> Tables<'t>
+    ensures tags { result.tags ≡ structs.entry.tags }
+    ensures defined { result.defined ≡ structs.entry.defined }
+    ensures structs { result.structs ≡ structs.entry.structs }
+    ensures procs { result.procs ≡ procs.entry.procs }
+    ensures bodies { result.bodies ≡ procs.entry.bodies }
+    ensures declared { result.declared ≡ procs.entry.declared }
+    ensures signatures { result.signatures ≡ procs.entry.signatures }
+{
+    Tables {
+        tags: structs.tags,
+        defined: structs.defined,
+        structs: structs.structs,
+        procs: procs.procs,
+        bodies: procs.bodies,
+        declared: procs.declared,
+        signatures: procs.signatures,
+    }
+}
+
+/// What the declarations of a file say.
+#[tactic(auto, unfolding(crate::specs::Declarations::body_names, crate::specs::Declarations::proc_names, crate::specs::Declarations::declared_names, crate::specs::Declarations::signatures))]
+pub(crate) fn declarations<'t>(alloc: Global, tree: &'t Tree) -> Result<Tables<'t>, Memory>
+    ensures { IfOk result (λ tables. tables ≡ declarations (tree_view tree.now)) }
+{
+    let structs = struct_tables(alloc, tree)?;
+    let procs = proc_tables(alloc, &structs.tags, tree.procs.as_slice())?;
+    Ok(tables_of(structs, procs))
 }

@@ -221,7 +221,6 @@ fn is_misfit(param: Option<SlotType>, argument: Operand) -> bool
 }
 
 #[cycle(check)]
-#[tactic(auto, using(crate::proofs::Walks::misfits_at, crate::proofs::Walks::args_breaches_at, crate::proofs::Walks::args_infos_at, crate::proofs::Firsts::sooner_assoc, crate::proofs::Firsts::sooner_left, crate::proofs::Firsts::sooner_right))]
 fn check_args(
     tables: &Tables,
     scope: &OpenScopes,
@@ -562,16 +561,15 @@ pub(crate) fn check_expr(
         ExprForm::Call(f, args) => {
             check_call(tables, scope, wanted, e.at, f, args.as_slice(), nodes)
         }
-        ExprForm::New(new) => match &new.count {
-            None => {
-                let made = made(tables, scope, &new.cast, new.zeroed, &new.unit);
-                check_new(wanted, e.at, made, nodes)
+        ExprForm::New(new) => {
+            let made = made(tables, scope, &new.cast, new.zeroed, &new.unit);
+            match &new.count {
+                None => check_new(wanted, e.at, made, nodes),
+                Some(count) => {
+                    check_counted(tables, scope, wanted, e.at, made, count.get(), nodes)
+                }
             }
-            Some(count) => {
-                let made = made(tables, scope, &new.cast, new.zeroed, &new.unit);
-                check_counted(tables, scope, wanted, e.at, made, count.get(), nodes)
-            }
-        },
+        }
         ExprForm::Arrow(base, name) => {
             check_arrow(tables, scope, wanted, e.at, base.get(), name, nodes)
         }

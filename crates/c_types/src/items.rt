@@ -6,7 +6,7 @@ ghost use Rattle.c_tree.specs.View.{proc_view, stmt_view};
 ghost use Rattle.c_types.specs.Breaches.{soonest, sooner, breach_if};
 ghost use Rattle.c_types.specs.Names.{has_name, with_name};
 ghost use Rattle.c_types.specs.Types.{is_pointer, same_types, same_result, same_signature};
-ghost use Rattle.c_types.specs.Scopes.{is_empty, breaks_5, with_param, with_params};
+ghost use Rattle.c_types.specs.Scopes.{is_empty, no_scope, breaks_5, with_param, with_params};
 ghost use Rattle.c_types.specs.Declarations.{has_body, signature_of, with_body, with_bodies};
 ghost use Rattle.c_types.specs.Items.{breaks_3, breaks_4, members_breaches, structs_breaches, params_breaches, body_breaches, body_after, body_infos, ret_slots, proc_breaches, procs_breaches, proc_info, chosen, with_prototype, bodied_infos, external_infos};
 
@@ -17,7 +17,7 @@ use crate::kinds::{SlotType, same_type};
 use crate::names::{Names, number_of};
 use crate::rules::{Breach, breach_if, sooner};
 use crate::scope::OpenScopes;
-use crate::stmts::{check_stmt, check_stmts, note_plain};
+use crate::stmts::{Context, check_stmt, check_stmts, note_plain};
 use crate::tables::{Signature, Tables, slot_type};
 use c_tree::{Member, Memory, Name, ProcItem, Span, Stmt, StmtForm, StructDef};
 use std::alloc::Global;
@@ -209,12 +209,17 @@ fn check_body<'t>(
     ensures after { OnOk result (scope.new ≡ body_after tables.now scope.old (option_map stmt_view body.now)) }
     ensures nodes { OnOk result (nodes.new.items ≡ nodes.old.items ++ body_infos tables.now returned scope.old (option_map stmt_view body.now)) }
 {
+    let context = Context {
+        alloc,
+        returned,
+        looped: false,
+    };
     match body {
         None => Ok(None),
         Some(s) => match &s.form {
             StmtForm::Block(ss) => {
                 note_plain(nodes)?;
-                check_stmts(alloc, tables, returned, false, scope, ss.as_slice(), nodes)
+                check_stmts(tables, context, scope, ss.as_slice(), nodes)
             }
             StmtForm::Local(_, _, None)
             | StmtForm::Local(_, _, Some(_))
@@ -229,7 +234,7 @@ fn check_body<'t>(
             | StmtForm::Continue
             | StmtForm::Return(None)
             | StmtForm::Return(Some(_))
-            | StmtForm::Nothing => check_stmt(alloc, tables, returned, false, scope, s, nodes),
+            | StmtForm::Nothing => check_stmt(tables, context, scope, s, nodes),
         },
     }
 }
@@ -262,6 +267,67 @@ fn add_result(
     }
 }
 
+/// Checks the parameters and the body of a procedure, which are one scope.
+fn check_inside<'t>(
+    alloc: Global,
+    tables: &Tables,
+    returned: Option<SlotType>,
+    scope: &mut OpenScopes<'t>,
+    p: &'t ProcItem,
+    nodes: &mut Vec<NodeInfo>,
+) -> Result<Option<Breach>, Memory>
+    ensures first { IfOk result (λ b. b ≡ sooner (params_breaches soonest tables.now scope.old p.now.params)
+        (body_breaches soonest tables.now returned (with_params tables.now.tags scope.old p.now.params) (option_map stmt_view p.now.body))) }
+    ensures after { OnOk result (scope.new ≡ body_after tables.now (with_params tables.now.tags scope.old p.now.params) (option_map stmt_view p.now.body)) }
+    ensures nodes { OnOk result (nodes.new.items
+        ≡ nodes.old.items ++ body_infos tables.now returned (with_params tables.now.tags scope.old p.now.params) (option_map stmt_view p.now.body)) }
+{
+    let params = check_params(alloc, tables, scope, p.params.as_slice())?;
+    let body = check_body(alloc, tables, returned, scope, &p.body, nodes)?;
+    Ok(sooner(params, body))
+}
+
+/// The slots of a procedure, and the first rule that its parameters and its body break; notes the nodes
+/// of the body.
+fn check_slots(
+    alloc: Global,
+    tables: &Tables,
+    returned: Option<SlotType>,
+    p: &ProcItem,
+    nodes: &mut Vec<NodeInfo>,
+) -> Result<(SlotInfos, Option<Breach>), Memory>
+    ensures slots { IfOk result (λ r. r.0
+        ≡ (body_after tables.now (with_params tables.now.tags no_scope p.now.params) (option_map stmt_view p.now.body)).slots
+        ++ ret_slots (option_map stmt_view p.now.body) returned p.now.close) }
+    ensures first { IfOk result (λ r. r.1 ≡ sooner (params_breaches soonest tables.now no_scope p.now.params)
+        (body_breaches soonest tables.now returned (with_params tables.now.tags no_scope p.now.params) (option_map stmt_view p.now.body))) }
+    ensures nodes { OnOk result (nodes.new.items
+        ≡ nodes.old.items ++ body_infos tables.now returned (with_params tables.now.tags no_scope p.now.params) (option_map stmt_view p.now.body)) }
+{
+    let mut scope = OpenScopes::new(alloc);
+    let inside = check_inside(alloc, tables, returned, &mut scope, p, nodes)?;
+    let mut slots = scope.into_slots();
+    add_result(alloc, &mut slots, &p.body, returned, p.close)?;
+    Ok((slots, inside))
+}
+
+/// The first rule that a procedure breaks, where this is the first one in its parameters and its body.
+fn check_item(
+    alloc: Global,
+    tables: &Tables,
+    bodied: &Names,
+    returned: Option<SlotType>,
+    p: &ProcItem,
+    inside: Option<Breach>,
+) -> Result<Option<Breach>, Memory>
+    ensures { IfOk result (λ b. b ≡ sooner (breach_if soonest (breaks_3 tables.now bodied.now (proc_view p.now)) p.now.at 3)
+        (sooner (breach_if soonest (not (has_body tables.now p.now.name) && option_map_or is_pointer returned false) p.now.at 4) inside)) }
+{
+    let differs = breach_if(breaks_3(alloc, tables, bodied, p)?, p.at, 3);
+    let pointer = breach_if(breaks_4(tables, p.name.items.as_slice(), returned), p.at, 4);
+    Ok(sooner(differs, sooner(pointer, inside)))
+}
+
 /// Checks a procedure whose item has that place, where these names have a body before.
 fn check_proc(
     alloc: Global,
@@ -273,52 +339,103 @@ fn check_proc(
     ensures info { IfOk result (λ r. r.0 ≡ proc_info tables.now item (proc_view p.now)) }
     ensures first { IfOk result (λ r. r.1 ≡ proc_breaches soonest tables.now bodied.now (proc_view p.now)) }
 {
-    let returned = result_type(&tables.tags, &p.result);
-    let mut scope = OpenScopes::new(alloc);
-    let mut nodes = Vec::new(alloc);
-    let params = check_params(alloc, tables, &mut scope, p.params.as_slice())?;
-    let body = check_body(alloc, tables, returned, &mut scope, &p.body, &mut nodes)?;
-    let mut slots = scope.into_slots();
-    add_result(alloc, &mut slots, &p.body, returned, p.close)?;
-    let differs = breach_if(breaks_3(alloc, tables, bodied, p)?, p.at, 3);
-    let pointer = breach_if(breaks_4(tables, p.name.items.as_slice(), returned), p.at, 4);
+    let item = number_of(item)?;
+    let params = number_of(p.params.as_slice().len())?;
+    let result = result_type(&tables.tags, &p.result);
+    let mut items = Vec::new(alloc);
+    let (slots, inside) = check_slots(alloc, tables, result, p, &mut items)?;
+    let first = check_item(alloc, tables, bodied, result, p, inside)?;
     let info = ProcInfo {
-        item: number_of(item)?,
-        params: number_of(p.params.as_slice().len())?,
-        result: returned,
+        item,
+        params,
+        result,
         slots,
-        nodes: NodeInfos { items: nodes },
+        nodes: NodeInfos { items },
     };
-    Ok((info, sooner(differs, sooner(pointer, sooner(params, body)))))
+    Ok((info, first))
 }
 
-/// Keeps a procedure's information where it has the first body of its name.
-fn keep_bodied<'t>(
-    bodied: &mut Names<'t>,
-    infos: &mut Vec<ProcInfo>,
-    externals: &mut Vec<ProcInfo>,
-    known: &mut Names<'t>,
-    p: &'t ProcItem,
-    info: ProcInfo,
-) -> Result<(), Memory>
-    ensures bodied { OnOk result (bodied.new ≡ with_body bodied.old (proc_view p.now)) }
-    ensures known { OnOk result (known.new ≡ with_prototype known.old (proc_view p.now)) }
-    ensures infos { OnOk result (infos.new.items ≡ infos.old.items ++ chosen (is_some p.now.body && not (has_name bodied.old p.now.name)) info) }
-    ensures externals { OnOk result (externals.new.items ≡ externals.old.items ++ chosen (is_none p.now.body && not (has_name known.old p.now.name)) info) }
-{
-    match &p.body {
-        Some(_) => {
-            if !repeats(bodied, &p.name)? {
-                infos.push(info)?;
+/// The procedures of a file so far, those with a body and the others.
+#[derive(Drop)]
+struct Kept<'t> {
+    /// The names that have a body so far.
+    bodied: Names<'t>,
+    /// The names that have a body in the file, or a prototype so far.
+    known: Names<'t>,
+    infos: Vec<ProcInfo>,
+    externals: Vec<ProcInfo>,
+}
+
+impl<'t> Kept<'t> {
+    fn new(alloc: Global, procs: &'t [ProcItem]) -> Result<Self, Memory>
+        ensures bodied { IfOk result (λ k. k.bodied ≡ []) }
+        ensures known { IfOk result (λ k. k.known ≡ with_bodies [] (map proc_view procs.now)) }
+        ensures infos { IfOk result (λ k. k.infos.items ≡ []) }
+        ensures externals { IfOk result (λ k. k.externals.items ≡ []) }
+    {
+        let mut known = Names::new(alloc);
+        add_bodies(&mut known, procs)?;
+        Ok(Kept {
+            bodied: Names::new(alloc),
+            known,
+            infos: Vec::new(alloc),
+            externals: Vec::new(alloc),
+        })
+    }
+
+    /// Keeps a procedure's information where it has the first body of its name, or the first
+    /// prototype where the name has no body.
+    fn keep(&mut self, p: &'t ProcItem, info: ProcInfo) -> Result<(), Memory>
+        ensures bodied { OnOk result (self.new.bodied ≡ with_body self.old.bodied (proc_view p.now)) }
+        ensures known { OnOk result (self.new.known ≡ with_prototype self.old.known (proc_view p.now)) }
+        ensures infos { OnOk result (self.new.infos.items ≡ self.old.infos.items ++ chosen (is_some p.now.body && not (has_name self.old.bodied p.now.name)) info) }
+        ensures externals { OnOk result (self.new.externals.items ≡ self.old.externals.items ++ chosen (is_none p.now.body && not (has_name self.old.known p.now.name)) info) }
+    {
+        match &p.body {
+            Some(_) => {
+                if !repeats(&mut self.bodied, &p.name)? {
+                    self.infos.push(info)?;
+                }
+                Ok(())
             }
-            Ok(())
-        }
-        None => {
-            if !repeats(known, &p.name)? {
-                externals.push(info)?;
+            None => {
+                if !repeats(&mut self.known, &p.name)? {
+                    self.externals.push(info)?;
+                }
+                Ok(())
             }
-            Ok(())
         }
+    }
+
+    /// Checks a procedure whose item has that place, and keeps it.
+    fn check(
+        &mut self,
+        alloc: Global,
+        tables: &Tables,
+        item: usize,
+        p: &'t ProcItem,
+    ) -> Result<Option<Breach>, Memory>
+        ensures first { IfOk result (λ b. b ≡ proc_breaches soonest tables.now self.old.bodied (proc_view p.now)) }
+        ensures bodied { OnOk result (self.new.bodied ≡ with_body self.old.bodied (proc_view p.now)) }
+        ensures known { OnOk result (self.new.known ≡ with_prototype self.old.known (proc_view p.now)) }
+        ensures infos { OnOk result (self.new.infos.items
+            ≡ self.old.infos.items ++ chosen (is_some p.now.body && not (has_name self.old.bodied p.now.name)) (proc_info tables.now item (proc_view p.now))) }
+        ensures externals { OnOk result (self.new.externals.items
+            ≡ self.old.externals.items ++ chosen (is_none p.now.body && not (has_name self.old.known p.now.name)) (proc_info tables.now item (proc_view p.now))) }
+    {
+        let (info, found) = check_proc(alloc, tables, &self.bodied, item, p)?;
+        self.keep(p, info)?;
+        Ok(found)
+    }
+
+    /// All of them by number: those with a body, and then the others.
+    fn into_infos(self) -> Result<Vec<ProcInfo>, Memory>
+        ensures { IfOk result (λ infos. infos.items ≡ self.entry.infos.items ++ self.entry.externals.items) }
+    {
+        let mut infos = self.infos;
+        let mut externals = self.externals;
+        infos.append(&mut externals)?;
+        Ok(infos)
     }
 }
 
@@ -341,17 +458,12 @@ pub(crate) fn check_procs(
         ≡ bodied_infos tables.now [] 0 (map proc_view procs.now)
         ++ external_infos tables.now (with_bodies [] (map proc_view procs.now)) 0 (map proc_view procs.now)) }
 {
-    let mut known = Names::new(alloc);
-    add_bodies(&mut known, procs)?;
-    let mut bodied = Names::new(alloc);
-    let mut infos = Vec::new(alloc);
-    let mut externals = Vec::new(alloc);
+    let mut kept = Kept::new(alloc, procs)?;
     let mut first = None;
     for (i, p) in procs.iter().enumerate() {
-        let (info, found) = check_proc(alloc, tables, &bodied, i, p)?;
-        keep_bodied(&mut bodied, &mut infos, &mut externals, &mut known, p, info)?;
+        let found = kept.check(alloc, tables, i, p)?;
         first = sooner(first, found);
     }
-    infos.append(&mut externals)?;
+    let infos = kept.into_infos()?;
     Ok(Procs { infos, first })
 }

@@ -33,6 +33,3 @@ pub use infos::{
 };
 pub use kinds::SlotType;
 pub use typed::Typed;
-
-#[cfg(test)]
-mod tests;

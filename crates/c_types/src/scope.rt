@@ -35,7 +35,7 @@ pub(crate) struct Scope {
 }
 
 /// What a procedure has declared up to some place of its body. A name is looked up in constant time,
-/// and a scope is left in as many steps as it has variables.
+/// unless names were chosen to collide, and a scope is left in as many steps as it has variables.
 #[derive(Drop)]
 pub(crate) struct OpenScopes<'t> {
     slots: SlotInfos,

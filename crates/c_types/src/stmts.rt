@@ -236,63 +236,74 @@ fn check_value(
     ))
 }
 
-/// Checks a statement of a procedure with that result, in a loop or not, and notes its nodes in
-/// preorder.
+/// What a statement stands in.
+#[derive(Clone, Copy)]
+pub(crate) struct Context {
+    pub alloc: Global,
+    /// The result of the procedure.
+    pub returned: Option<SlotType>,
+    /// Whether it is in a loop.
+    pub looped: bool,
+}
+
+/// Checks a statement, and notes its nodes in preorder.
 #[cycle(stmts)]
 pub(crate) fn check_stmt<'t>(
-    alloc: Global,
     tables: &Tables,
-    returned: Option<SlotType>,
-    looped: bool,
+    context: Context,
     scope: &mut OpenScopes<'t>,
     s: &'t Stmt,
     nodes: &mut Vec<NodeInfo>,
 ) -> Result<Option<Breach>, Memory>
-    ensures first { IfOk result (λ b. b ≡ stmt_breaches soonest tables.now returned looped scope.old (stmt_view s.now)) }
+    ensures first { IfOk result (λ b. b ≡ stmt_breaches soonest tables.now context.returned context.looped scope.old (stmt_view s.now)) }
     ensures after { OnOk result (scope.new ≡ after tables.now scope.old (stmt_view s.now)) }
-    ensures nodes { OnOk result (nodes.new.items ≡ nodes.old.items ++ stmt_infos tables.now returned scope.old (stmt_view s.now)) }
+    ensures nodes { OnOk result (nodes.new.items ≡ nodes.old.items ++ stmt_infos tables.now context.returned scope.old (stmt_view s.now)) }
 {
     match &s.form {
         StmtForm::Block(ss) => {
             note_plain(nodes)?;
-            check_block(alloc, tables, returned, looped, scope, ss.as_slice(), nodes)
+            check_block(tables, context, scope, ss.as_slice(), nodes)
         }
-        StmtForm::Local(x, t, None) => check_local(alloc, tables, scope, s.at, x, t, nodes),
+        StmtForm::Local(x, t, None) => check_local(context.alloc, tables, scope, s.at, x, t, nodes),
         StmtForm::Local(x, t, Some(e)) => {
-            check_initialised(alloc, tables, scope, s.at, x, t, e, nodes)
+            check_initialised(context.alloc, tables, scope, s.at, x, t, e, nodes)
         }
         StmtForm::Assign(t, e) => check_assign(tables, scope, s.at, t, e, nodes),
         StmtForm::Do(e) => Ok(check_head(tables, scope, Wanted::Nothing, e, nodes)?.first),
         StmtForm::Free(e) => check_free(tables, scope, s.at, e, nodes),
         StmtForm::If(c, then, None) => {
-            let test = check_head(tables, scope, Wanted::Value, c, nodes)?;
-            let then = check_below(alloc, tables, returned, looped, scope, then.get(), nodes)?;
-            Ok(tested(s.at, test, then))
+            check_guarded(tables, context, scope, s.at, then.get(), c, nodes)
         }
         StmtForm::If(c, then, Some(other)) => {
             let test = check_head(tables, scope, Wanted::Value, c, nodes)?;
-            let then = check_below(alloc, tables, returned, looped, scope, then.get(), nodes)?;
-            let other = check_below(alloc, tables, returned, looped, scope, other.get(), nodes)?;
+            let then = check_below(tables, context, scope, then.get(), nodes)?;
+            let other = check_below(tables, context, scope, other.get(), nodes)?;
             Ok(tested(s.at, test, sooner(then, other)))
         }
         StmtForm::While(c, body) => {
-            let test = check_head(tables, scope, Wanted::Value, c, nodes)?;
-            let turn = check_below(alloc, tables, returned, true, scope, body.get(), nodes)?;
-            Ok(tested(s.at, test, turn))
+            let turn = Context {
+                looped: true,
+                ..context
+            };
+            check_guarded(tables, turn, scope, s.at, body.get(), c, nodes)
         }
         StmtForm::For(init, c, step, body) => {
             let around = scope.enter()?;
             let ss = init.as_slice();
-            let head = check_init(alloc, tables, returned, looped, scope, ss, c, nodes)?;
-            let next = check_step(alloc, tables, returned, scope, step, nodes)?;
-            let turn = check_below(alloc, tables, returned, true, scope, body.get(), nodes)?;
+            let head = check_init(tables, context, scope, ss, c, nodes)?;
+            let next = check_step(tables, context, scope, step, nodes)?;
+            let turn = Context {
+                looped: true,
+                ..context
+            };
+            let turn = check_below(tables, turn, scope, body.get(), nodes)?;
             scope.leave(around);
             let own = breach_if(head.broken, s.at, 12);
             Ok(sooner(own, sooner(head.first, sooner(next, turn))))
         }
-        StmtForm::Break | StmtForm::Continue => check_jump(looped, s.at, nodes),
-        StmtForm::Return(None) => check_return(returned, s.at, nodes),
-        StmtForm::Return(Some(e)) => check_value(tables, returned, scope, s.at, e, nodes),
+        StmtForm::Break | StmtForm::Continue => check_jump(context.looped, s.at, nodes),
+        StmtForm::Return(None) => check_return(context.returned, s.at, nodes),
+        StmtForm::Return(Some(e)) => check_value(tables, context.returned, scope, s.at, e, nodes),
         StmtForm::Nothing => {
             note_plain(nodes)?;
             Ok(None)
@@ -300,13 +311,33 @@ pub(crate) fn check_stmt<'t>(
     }
 }
 
+/// Notes a statement, and checks its condition and the statement below it.
+#[cycle(stmts)]
+fn check_guarded<'t>(
+    tables: &Tables,
+    context: Context,
+    scope: &mut OpenScopes<'t>,
+    at: Span,
+    s: &'t Stmt,
+    c: &Expr,
+    nodes: &mut Vec<NodeInfo>,
+) -> Result<Option<Breach>, Memory>
+    ensures first { IfOk result (λ b. b ≡ sooner (breach_if soonest (breaks_12 (operand_of tables.now scope.old (expr_view c.now))) at 12)
+        (sooner (breaches soonest tables.now scope.old Wanted.Value (expr_view c.now)) (stmt_breaches soonest tables.now context.returned context.looped scope.old (stmt_view s.now)))) }
+    ensures after { OnOk result (scope.new ≡ left scope.old (after tables.now scope.old (stmt_view s.now))) }
+    ensures nodes { OnOk result (nodes.new.items ≡ nodes.old.items
+        ++ (plain_info ∷ infos tables.now scope.old Wanted.Value (expr_view c.now) ++ stmt_infos tables.now context.returned scope.old (stmt_view s.now))) }
+{
+    let test = check_head(tables, scope, Wanted::Value, c, nodes)?;
+    let below = check_below(tables, context, scope, s, nodes)?;
+    Ok(tested(at, test, below))
+}
+
 /// Notes a for statement, and checks its first statements and its condition.
 #[cycle(stmts)]
 fn check_init<'t>(
-    alloc: Global,
     tables: &Tables,
-    returned: Option<SlotType>,
-    looped: bool,
+    context: Context,
     scope: &mut OpenScopes<'t>,
     ss: &'t [Stmt],
     e: &Option<Expr>,
@@ -314,16 +345,16 @@ fn check_init<'t>(
 ) -> Result<Condition, Memory>
     ensures broken { IfOk result (λ c. c.broken ≡ breaks_12_for tables.now (after_all tables.now scope.old (stmts_view ss.now)) (cond_view e.now)) }
     ensures first { IfOk result (λ c. c.first ≡ sooner
-        (stmts_breaches soonest tables.now returned looped scope.old (stmts_view ss.now))
+        (stmts_breaches soonest tables.now context.returned context.looped scope.old (stmts_view ss.now))
         (condition_breaches soonest tables.now (after_all tables.now scope.old (stmts_view ss.now)) (cond_view e.now))) }
     ensures after { OnOk result (scope.new ≡ after_all tables.now scope.old (stmts_view ss.now)) }
     ensures keeps { OnOk result (take (length scope.old.visible) scope.new.visible ≡ scope.old.visible) }
     ensures nodes { OnOk result (nodes.new.items ≡ nodes.old.items
-        ++ ((plain_info ∷ stmts_infos tables.now returned scope.old (stmts_view ss.now))
+        ++ ((plain_info ∷ stmts_infos tables.now context.returned scope.old (stmts_view ss.now))
         ++ condition_infos tables.now (after_all tables.now scope.old (stmts_view ss.now)) (cond_view e.now))) }
 {
     note_plain(nodes)?;
-    let first = check_stmts(alloc, tables, returned, looped, scope, ss, nodes)?;
+    let first = check_stmts(tables, context, scope, ss, nodes)?;
     let cond = check_condition(tables, scope, e, nodes)?;
     Ok(Condition {
         broken: cond.broken,
@@ -334,19 +365,24 @@ fn check_init<'t>(
 #[cycle(stmts)]
 #[tactic(auto, using(crate::proofs::Firsts::sooner_right))]
 fn check_step<'t>(
-    alloc: Global,
     tables: &Tables,
-    returned: Option<SlotType>,
+    context: Context,
     scope: &mut OpenScopes<'t>,
     step: &'t Option<Boxed<Stmt>>,
     nodes: &mut Vec<NodeInfo>,
 ) -> Result<Option<Breach>, Memory>
-    ensures first { IfOk result (λ b. b ≡ stmts_breaches soonest tables.now returned true scope.old (step_view step.now)) }
+    ensures first { IfOk result (λ b. b ≡ stmts_breaches soonest tables.now context.returned true scope.old (step_view step.now)) }
     ensures after { OnOk result (scope.new ≡ left scope.old (after_all tables.now scope.old (step_view step.now))) }
-    ensures nodes { OnOk result (nodes.new.items ≡ nodes.old.items ++ stmts_infos tables.now returned scope.old (step_view step.now)) }
+    ensures nodes { OnOk result (nodes.new.items ≡ nodes.old.items ++ stmts_infos tables.now context.returned scope.old (step_view step.now)) }
 {
     match step {
-        Some(s) => check_below(alloc, tables, returned, true, scope, s.get(), nodes),
+        Some(s) => {
+            let turn = Context {
+                looped: true,
+                ..context
+            };
+            check_below(tables, turn, scope, s.get(), nodes)
+        }
         None => Ok(None),
     }
 }
@@ -355,64 +391,57 @@ fn check_step<'t>(
 #[cycle(stmts)]
 #[tactic(auto, using(crate::proofs::Scopes::keeps_visible))]
 fn check_below<'t>(
-    alloc: Global,
     tables: &Tables,
-    returned: Option<SlotType>,
-    looped: bool,
+    context: Context,
     scope: &mut OpenScopes<'t>,
     s: &'t Stmt,
     nodes: &mut Vec<NodeInfo>,
 ) -> Result<Option<Breach>, Memory>
-    ensures first { IfOk result (λ b. b ≡ stmt_breaches soonest tables.now returned looped scope.old (stmt_view s.now)) }
+    ensures first { IfOk result (λ b. b ≡ stmt_breaches soonest tables.now context.returned context.looped scope.old (stmt_view s.now)) }
     ensures after { OnOk result (scope.new ≡ left scope.old (after tables.now scope.old (stmt_view s.now))) }
-    ensures nodes { OnOk result (nodes.new.items ≡ nodes.old.items ++ stmt_infos tables.now returned scope.old (stmt_view s.now)) }
+    ensures nodes { OnOk result (nodes.new.items ≡ nodes.old.items ++ stmt_infos tables.now context.returned scope.old (stmt_view s.now)) }
 {
     let outside = scope.outside();
-    let first = check_stmt(alloc, tables, returned, looped, scope, s, nodes)?;
+    let first = check_stmt(tables, context, scope, s, nodes)?;
     scope.leave(outside);
     Ok(first)
 }
 
 #[cycle(stmts)]
 fn check_block<'t>(
-    alloc: Global,
     tables: &Tables,
-    returned: Option<SlotType>,
-    looped: bool,
+    context: Context,
     scope: &mut OpenScopes<'t>,
     ss: &'t [Stmt],
     nodes: &mut Vec<NodeInfo>,
 ) -> Result<Option<Breach>, Memory>
-    ensures first { IfOk result (λ b. b ≡ stmts_breaches soonest tables.now returned looped (entered scope.old) (stmts_view ss.now)) }
+    ensures first { IfOk result (λ b. b ≡ stmts_breaches soonest tables.now context.returned context.looped (entered scope.old) (stmts_view ss.now)) }
     ensures after { OnOk result (scope.new ≡ left scope.old (after_all tables.now (entered scope.old) (stmts_view ss.now))) }
-    ensures nodes { OnOk result (nodes.new.items ≡ nodes.old.items ++ stmts_infos tables.now returned (entered scope.old) (stmts_view ss.now)) }
+    ensures nodes { OnOk result (nodes.new.items ≡ nodes.old.items ++ stmts_infos tables.now context.returned (entered scope.old) (stmts_view ss.now)) }
 {
     let outside = scope.enter()?;
-    let first = check_stmts(alloc, tables, returned, looped, scope, ss, nodes)?;
+    let first = check_stmts(tables, context, scope, ss, nodes)?;
     scope.leave(outside);
     Ok(first)
 }
 
 /// Checks statements of one scope.
 #[cycle(stmts)]
-#[tactic(auto, using(crate::proofs::Walks::stmts_breaches_at, crate::proofs::Walks::after_all_at, crate::proofs::Walks::stmts_infos_at, crate::proofs::Firsts::sooner_assoc, crate::proofs::Firsts::sooner_left, crate::proofs::Firsts::sooner_right))]
 pub(crate) fn check_stmts<'t>(
-    alloc: Global,
     tables: &Tables,
-    returned: Option<SlotType>,
-    looped: bool,
+    context: Context,
     scope: &mut OpenScopes<'t>,
     ss: &'t [Stmt],
     nodes: &mut Vec<NodeInfo>,
 ) -> Result<Option<Breach>, Memory>
-    ensures first { IfOk result (λ b. b ≡ stmts_breaches soonest tables.now returned looped scope.old (stmts_view ss.now)) }
+    ensures first { IfOk result (λ b. b ≡ stmts_breaches soonest tables.now context.returned context.looped scope.old (stmts_view ss.now)) }
     ensures after { OnOk result (scope.new ≡ after_all tables.now scope.old (stmts_view ss.now)) }
     ensures keeps { OnOk result (take (length scope.old.visible) scope.new.visible ≡ scope.old.visible) }
-    ensures nodes { OnOk result (nodes.new.items ≡ nodes.old.items ++ stmts_infos tables.now returned scope.old (stmts_view ss.now)) }
+    ensures nodes { OnOk result (nodes.new.items ≡ nodes.old.items ++ stmts_infos tables.now context.returned scope.old (stmts_view ss.now)) }
 {
     let mut first = None;
     for s in ss {
-        let found = check_stmt(alloc, tables, returned, looped, scope, s, nodes)?;
+        let found = check_stmt(tables, context, scope, s, nodes)?;
         first = sooner(first, found);
     }
     Ok(first)

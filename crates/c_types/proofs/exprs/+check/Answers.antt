@@ -1,12 +1,15 @@
-use Rattle.std.proofs.Common.{◌≡◌, ◌+◌, ◌<◌, ◌++◌, ◌||◌, length, drop, slice_get, sym, ap, ap₂, ◌∙◌, arith, append_assoc}
+use Rattle.std.proofs.Common.{◌≡◌, ◌+◌, ◌<◌, ◌++◌, ◌||◌, length, drop, slice_get, refl, sym, ap, ap₂, ◌∙◌, arith, append_assoc}
 use Rattle.std.proofs.lemmas.Grind.{common_steps}
 use Rattle.c_tree.specs.View.{expr_view, exprs_view}
 use Rattle.c_types.specs.Breaches.{soonest, sooner}
 use Rattle.c_types.specs.Types.{wanted_for}
 use Rattle.c_types.specs.Exprs.{operand_of, breaches, infos, is_misfit, misfits, args_breaches, args_infos}
-use Rattle.c_types.proofs.Firsts.{sooner_right, sooner_assoc}
+use Rattle.c_types.proofs.Firsts.{sooner_left, sooner_right, sooner_assoc}
 use Rattle.c_types.proofs.Walks.{any_left-drop, misfits_item, args_breaches_item, args_infos_item, or_assoc}
 use Rattle.c_types.proofs.exprs.+check.Goals as goal
+
+pub check_args-loop-i-init : goal.check_args-loop-i-init
+check_args-loop-i-init t c = record { misfit = refl; first = sooner_left _; nodes = refl }
 
 pub check_args-returns-clause-first : goal.check_args-returns-clause-first
 check_args-returns-clause-first t c = grind (arith, common_steps, sooner_right, c.loop-i.invariant.first, c.loop-i-test.false)

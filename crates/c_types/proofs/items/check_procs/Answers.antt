@@ -18,32 +18,32 @@ loop-i-preserved c =
     let procs = c.args.procs.now in
     let i = c.loop-i.i in
     let p = c.index-procs-i.result in
-    let bodied = c.loop-i.bodied in
-    let known = c.loop-i.known in
+    let bodied = c.loop-i.kept.bodied in
+    let known = c.loop-i.kept.known in
     let within : i < length procs = omega (arith, c.loop-i-test.true) in
     let rest = map proc_view (drop (i + 1) procs) in
     let is_bodied = is_some p.body && not (has_name bodied p.name) in
     let is_external = is_none p.body && not (has_name known p.name) in
     let info = proc_info tables i (proc_view p) in
-    let moved : c.keep_bodied.new.bodied ≡ with_body bodied (proc_view p) = c.in_ok-keep_bodied.ensures.bodied in
-    let learnt : c.keep_bodied.new.known ≡ with_prototype known (proc_view p) = c.in_ok-keep_bodied.ensures.known in
+    let moved : c.check.new.self.bodied ≡ with_body bodied (proc_view p) = c.in_ok-found.ensures.bodied in
+    let learnt : c.check.new.self.known ≡ with_prototype known (proc_view p) = c.in_ok-found.ensures.known in
     record {
       first =
-          ap (λ o. sooner o (procs_breaches soonest tables c.keep_bodied.new.bodied rest)) (c.sooner-first.ensures ∙ ap (sooner c.loop-i.first) c.in_ok-info.ensures.first)
+          ap (λ o. sooner o (procs_breaches soonest tables c.check.new.self.bodied rest)) (c.sooner-first.ensures ∙ ap (sooner c.loop-i.first) c.in_ok-found.ensures.first)
           ∙ ap (λ b. sooner (sooner c.loop-i.first (proc_breaches soonest tables bodied (proc_view p))) (procs_breaches soonest tables b rest)) moved
           ∙ sooner_assoc c.loop-i.first (proc_breaches soonest tables bodied (proc_view p)) (procs_breaches soonest tables (with_body bodied (proc_view p)) rest)
           ∙ ap (sooner c.loop-i.first) (sym (procs_breaches_item tables procs i p within c.index-procs-i.is bodied))
           ∙ c.loop-i.invariant.first;
       infos =
-          ap (λ xs. xs ++ bodied_infos tables c.keep_bodied.new.bodied (i + 1) rest) (c.in_ok-keep_bodied.ensures.infos ∙ ap (λ x. c.loop-i.infos.items ++ chosen is_bodied x) c.in_ok-info.ensures.info)
-          ∙ ap (λ b. (c.loop-i.infos.items ++ chosen is_bodied info) ++ bodied_infos tables b (i + 1) rest) moved
-          ∙ append_assoc c.loop-i.infos.items (chosen is_bodied info) (bodied_infos tables (with_body bodied (proc_view p)) (i + 1) rest)
-          ∙ ap (λ xs. c.loop-i.infos.items ++ xs) (sym (bodied_infos_item tables procs i p within c.index-procs-i.is bodied))
+          ap (λ xs. xs ++ bodied_infos tables c.check.new.self.bodied (i + 1) rest) c.in_ok-found.ensures.infos
+          ∙ ap (λ b. (c.loop-i.kept.infos.items ++ chosen is_bodied info) ++ bodied_infos tables b (i + 1) rest) moved
+          ∙ append_assoc c.loop-i.kept.infos.items (chosen is_bodied info) (bodied_infos tables (with_body bodied (proc_view p)) (i + 1) rest)
+          ∙ ap (λ xs. c.loop-i.kept.infos.items ++ xs) (sym (bodied_infos_item tables procs i p within c.index-procs-i.is bodied))
           ∙ c.loop-i.invariant.infos;
       externals =
-          ap (λ xs. xs ++ external_infos tables c.keep_bodied.new.known (i + 1) rest) (c.in_ok-keep_bodied.ensures.externals ∙ ap (λ x. c.loop-i.externals.items ++ chosen is_external x) c.in_ok-info.ensures.info)
-          ∙ ap (λ b. (c.loop-i.externals.items ++ chosen is_external info) ++ external_infos tables b (i + 1) rest) learnt
-          ∙ append_assoc c.loop-i.externals.items (chosen is_external info) (external_infos tables (with_prototype known (proc_view p)) (i + 1) rest)
-          ∙ ap (λ xs. c.loop-i.externals.items ++ xs) (sym (external_infos_item tables procs i p within c.index-procs-i.is known))
+          ap (λ xs. xs ++ external_infos tables c.check.new.self.known (i + 1) rest) c.in_ok-found.ensures.externals
+          ∙ ap (λ b. (c.loop-i.kept.externals.items ++ chosen is_external info) ++ external_infos tables b (i + 1) rest) learnt
+          ∙ append_assoc c.loop-i.kept.externals.items (chosen is_external info) (external_infos tables (with_prototype known (proc_view p)) (i + 1) rest)
+          ∙ ap (λ xs. c.loop-i.kept.externals.items ++ xs) (sym (external_infos_item tables procs i p within c.index-procs-i.is known))
           ∙ c.loop-i.invariant.externals;
     }

@@ -7,7 +7,7 @@ use Rattle.c_types.proofs.items.check_procs.Given as goal
 
 abbrev pub invariant-loop-i : goal.invariant-loop-i
 invariant-loop-i l = record {
-  first : sooner l.first (procs_breaches soonest l.tables l.bodied (map proc_view (drop l.i l.procs))) ≡ procs_breaches soonest l.tables [] (map proc_view l.procs);
-  infos : l.infos.items ++ bodied_infos l.tables l.bodied l.i (map proc_view (drop l.i l.procs)) ≡ bodied_infos l.tables [] 0 (map proc_view l.procs);
-  externals : l.externals.items ++ external_infos l.tables l.known l.i (map proc_view (drop l.i l.procs)) ≡ external_infos l.tables (with_bodies [] (map proc_view l.procs)) 0 (map proc_view l.procs);
+  first : sooner l.first (procs_breaches soonest l.tables l.kept.bodied (map proc_view (drop l.i l.procs))) ≡ procs_breaches soonest l.tables [] (map proc_view l.procs);
+  infos : l.kept.infos.items ++ bodied_infos l.tables l.kept.bodied l.i (map proc_view (drop l.i l.procs)) ≡ bodied_infos l.tables [] 0 (map proc_view l.procs);
+  externals : l.kept.externals.items ++ external_infos l.tables l.kept.known l.i (map proc_view (drop l.i l.procs)) ≡ external_infos l.tables (with_bodies [] (map proc_view l.procs)) 0 (map proc_view l.procs);
 }

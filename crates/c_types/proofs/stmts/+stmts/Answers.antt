@@ -1,4 +1,4 @@
-use Rattle.std.proofs.Common.{◌≡◌, ◌+◌, ◌<◌, ◌++◌, sym, ◌∙◌, arith, ap, length, take, drop, append_assoc}
+use Rattle.std.proofs.Common.{◌≡◌, ◌+◌, ◌<◌, ◌++◌, refl, sym, ◌∙◌, arith, ap, length, take, drop, append_assoc}
 use Rattle.std.proofs.lemmas.Grind.{common_steps}
 use Rattle.std.proofs.lemmas.List.{at_drop_all}
 use Rattle.c_tree.specs.View.{stmt_view, stmts_view}
@@ -6,9 +6,12 @@ use Rattle.c_types.specs.declared.scope.Scope.{Scope}
 use Rattle.c_types.specs.Stmts.{after, after_all, stmt_breaches, stmts_breaches, stmt_infos, stmts_infos}
 use Rattle.c_types.specs.Breaches.{soonest, sooner}
 use Rattle.c_types.proofs.Walks.{stmts_breaches_item, after_all_item, stmts_infos_item}
-use Rattle.c_types.proofs.Firsts.{sooner_right, sooner_assoc}
+use Rattle.c_types.proofs.Firsts.{sooner_left, sooner_right, sooner_assoc}
 use Rattle.c_types.proofs.Scopes.{keeps_visible_all}
 use Rattle.c_types.proofs.stmts.+stmts.Goals as goal
+
+pub check_stmts-loop-s-init : goal.check_stmts-loop-s-init
+check_stmts-loop-s-init t c = record { first = sooner_left _; after = refl; nodes = refl }
 
 pub check_stmts-returns-clause-first : goal.check_stmts-returns-clause-first
 check_stmts-returns-clause-first t c = grind (arith, common_steps, sooner_right, c.loop-s.invariant.first, c.loop-s-test.false)
@@ -23,8 +26,8 @@ check_stmts-returns-clause-keeps t c =
 pub check_stmts-loop-s-preserved : goal.check_stmts-loop-s-preserved
 check_stmts-loop-s-preserved t c =
     let tables = c.args.tables.now in
-    let r = c.args.returned in
-    let looped = c.args.looped in
+    let r = c.args.context.returned in
+    let looped = c.args.context.looped in
     let ss = c.args.ss.now in
     let i = c.loop-s.s-index in
     let s = c.s-item.result in
