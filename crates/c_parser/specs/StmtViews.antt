@@ -7,8 +7,7 @@ use Rattle.c_tree.specs.Plain as tree
 use Rattle.c_tree.specs.View.{stmt_view, stmts_view, cond_view, step_view}
 use Rattle.c_token.specs.declared.token.Token.{Token}
 use Rattle.c_grammar.specs.Parts.{Part, Row}
-use Rattle.c_grammar.specs.Stmts.{declared_as, Heading}
-use Rattle.c_parser.specs.declared.parts.ExprPart.{ExprPart}
+use Rattle.c_grammar.specs.Stmts.{Heading}
 use Rattle.c_parser.specs.declared.statement_parts.StmtPart as code_stmt
 use Rattle.c_parser.specs.declared.statement_parts.StmtsRow as code_stmts
 use Rattle.c_parser.specs.declared.statement_parts.HeadingRow as code_heading
@@ -16,12 +15,13 @@ use Rattle.c_parser.specs.declared.statement_parts.BoxedPart as code_boxed
 use Rattle.c_parser.specs.declared.statements.ConditionRow as code_condition
 use Rattle.c_parser.specs.declared.statements.StepRow as code_step
 use Rattle.c_parser.specs.declared.statements.Braced as code_braced
+use Rattle.c_parser.specs.declared.statements.Chunk as code_chunk
+use Rattle.c_parser.specs.declared.statements.ChunkRow as code_chunk_row
 use Rattle.c_parser.specs.declared.locals.Declared as code_declared
 use Rattle.c_grammar.specs.ReadStmts.{Declared, Braced, is_path, step_one, Statements, one_stmt, read_locals}
 use Rattle.c_grammar.specs.ReadExprs.{begins_base}
 use Rattle.c_grammar.specs.Reading.{Front, after_mark}
 use Rattle.c_tree.specs.declared.tree.BinaryOp.{BinaryOp}
-use Rattle.c_parser.specs.Views.{expr_part}
 
 abbrev pub stmt_part : code_stmt.StmtPart → Part Stmt
 stmt_part p = record { tree = stmt_view p.tree; at = p.at; depth = p.depth; rest = p.rest.now }
@@ -55,6 +55,13 @@ step_row s = record { tree = step_view s.tree; depth = s.depth; rest = s.rest.no
 abbrev pub braced_of : code_braced.Braced → Braced
 braced_of b = record { part = stmt_part b.part; brace = b.brace }
 
+abbrev pub chunk_view : code_chunk.Chunk → Stmts
+chunk_view (code_chunk.Chunk.Locals ss) = stmts_view ss
+chunk_view (code_chunk.Chunk.One s) = tree.stmt (stmt_view s) tree.no_stmts
+
+abbrev pub chunk_row : code_chunk_row.ChunkRow → Row Stmts
+chunk_row c = record { tree = chunk_view c.chunk; depth = c.depth; rest = c.rest.now }
+
 -- a path is itself
 abbrev arrow_of : Span → List ℕ → Option Expr → Option Expr
 arrow_of at f None = None
@@ -65,10 +72,9 @@ path_of (tree.name at x) = Some (tree.name at x)
 path_of (tree.arrow at b f) = arrow_of at f (path_of b)
 path_of _ = None
 
--- a declaration, before these tokens where it has no initialiser
-abbrev pub declared_with : Member → Option ExprPart → List Token → Part Stmt
-declared_with m None ts = record { tree = tree.local m.at m.name m.kind; at = m.at; depth = 1; rest = ts }
-declared_with m (Some p) ts = declared_as m (expr_part p)
+-- a declaration without an initialiser, before these tokens
+abbrev pub declared : Member → List Token → Part Stmt
+declared m ts = record { tree = tree.local m.at m.name m.kind; at = m.at; depth = 1; rest = ts }
 
 -- one more or less at a target, which must be a path
 abbrev pub step_path : ℕ → Bool → Part Expr → BinaryOp → Front → Option (Part Stmt)

@@ -1,5 +1,6 @@
 -- What a clause sees of what the parts of the parser return.
-use Rattle.std.specs.Prelude.{◌≡◌, ℕ, Bool, true, false, List, [], ◌∷◌, Option, None, Some, Ok, Err, option_map, option_and_then, if◌then◌else◌, codes}
+use Rattle.std.specs.Prelude.{◌≡◌, ℕ, Bool, true, false, List, [], ◌∷◌, Option, None, Some, Ok, Err, option_map, option_and_then, if◌then◌else◌, bytes_eq, codes}
+use Rattle.std.specs.Borrow.{Bor}
 use Rattle.std.specs.declared.result.Result.{Result}
 use Rattle.c_tree.specs.declared.tree.Unit.{Unit as Base}
 use Rattle.c_tree.specs.declared.tree.TypeName.{TypeName}
@@ -52,6 +53,15 @@ plain_base (t ∷ ts) = base_at t ts
 
 abbrev pub operator_view : code_operator.Operator → Operator
 operator_view o = record { line = o.line; op = o.op }
+
+-- a row of a table of operators
+abbrev pub row_view : Bor (List ℕ) × code_operator.Operator → List ℕ × Operator
+row_view r = (r.0.now, operator_view r.1)
+
+-- the operator of the first row with this mark
+abbrev pub listed : List ℕ → List (List ℕ × Operator) → Option Operator
+listed m [] = None
+listed m (r ∷ rs) = if bytes_eq m r.0 then Some r.1 else listed m rs
 
 abbrev pub found_of : code_found.Found → Found
 found_of f = record { op = f.op; rest = f.rest.now }

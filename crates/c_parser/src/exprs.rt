@@ -1,8 +1,8 @@
 ghost use Rattle.std.specs.Prelude.{◌≡◌, ◌≤◌, ◌<◌, ◌+◌, ◌-◌, ◌^◌, suc, codes, IfOk};
 ghost use Rattle.c_grammar.specs.Reading.{after_mark};
 ghost use Rattle.c_grammar.specs.Exprs.{expr_line, product_line};
-ghost use Rattle.c_grammar.specs.ReadExprs.{stage, operations, steps, read_unary, read_primary, paren_at, size_unit, rise};
-ghost use Rattle.c_parser.specs.Views.{expr_part, args_row, unit_row, size_row, allocation_part, finder, Gives};
+ghost use Rattle.c_grammar.specs.ReadExprs.{stage, operations, steps, step_arrow, step_index, read_unary, read_primary, paren_at, size_unit, rise};
+ghost use Rattle.c_parser.specs.Views.{front_of, expr_part, args_row, unit_row, size_row, allocation_part, finder, Gives};
 ghost use Rattle.c_parser.specs.Below.{begins_step, one_step, args_before, malloc_after};
 
 use crate::error::ParseError;
@@ -11,7 +11,7 @@ use crate::parts::{
     Allocation, ArgsRow, ExprPart, SizeRow, UnitRow, allocated, arrowed, called, indexed, leaf,
     negation, operation,
 };
-use crate::tokens::{Parser, after_mark, copy_name, first_token, is_mark, is_word, join};
+use crate::tokens::{Front, Parser, after_mark, copy_name, first_token, is_mark, is_word, join};
 use crate::units::{after_cast, calloc_rest, literal, unit};
 use c_token::{Token, TokenKind};
 use c_tree::{BinaryOp, ExprForm};
@@ -135,10 +135,37 @@ fn step<'a>(parser: Parser, limit: u32, part: ExprPart<'a>) -> Result<ExprPart<'
     ensures within { IfOk result (λ p. (part.entry.depth < p.depth) × (p.depth ≤ limit + 1)) }
 {
     if let Some(arrow) = after_mark(part.rest, b"->") {
-        let member = parser.name(arrow.rest)?;
-        return Ok(arrowed(parser.alloc, part, member)?);
+        return member(parser, part, arrow);
     }
     let opening = parser.mark(part.rest, b"[")?;
+    element(parser, limit, part, opening)
+}
+
+fn member<'a>(
+    parser: Parser,
+    part: ExprPart<'a>,
+    arrow: Front<'a>,
+) -> Result<ExprPart<'a>, ParseError>
+    requires { part.depth + 1 < 2 ^ 32 }
+    ensures read { Gives expr_part result (step_arrow (expr_part part.entry) (front_of arrow.entry)) }
+    ensures depth { IfOk result (λ p. p.depth ≡ part.entry.depth + 1) }
+{
+    let member = parser.name(arrow.rest)?;
+    Ok(arrowed(parser.alloc, part, member)?)
+}
+
+#[cycle(expression)]
+fn element<'a>(
+    parser: Parser,
+    limit: u32,
+    part: ExprPart<'a>,
+    opening: Front<'a>,
+) -> Result<ExprPart<'a>, ParseError>
+    requires depth { part.depth ≤ limit }
+    requires room { limit + 1 < 2 ^ 32 }
+    ensures read { Gives expr_part result (step_index ((stage limit).line expr_line) (expr_part part.entry) (front_of opening.entry)) }
+    ensures within { IfOk result (λ p. (part.entry.depth < p.depth) × (p.depth ≤ limit + 1)) }
+{
     let index = line(parser, EXPR_LINE, limit, opening.rest)?;
     let closing = parser.mark(index.rest, b"]")?;
     Ok(indexed(parser.alloc, part, index, closing)?)

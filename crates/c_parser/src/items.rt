@@ -1,4 +1,5 @@
 ghost use Rattle.std.specs.Prelude.{◌≡◌, ◌≤◌, ◌<◌, length, codes, IfOk, option_and_then, option_map};
+ghost use Rattle.c_grammar.specs.Types.{type_of};
 ghost use Rattle.c_grammar.specs.Reading.{after_mark};
 ghost use Rattle.c_grammar.specs.ReadItems.{read_member, members, read_definition, read_type, read_param, some_params, read_params, read_answer, read_head, are_named, read_proc};
 ghost use Rattle.c_parser.specs.Views.{Gives};
@@ -9,7 +10,7 @@ use crate::error::ParseError;
 use crate::locals::{Declared, declarator};
 use crate::statements::{block, ends_block};
 use crate::tokens::{Parser, after_mark, after_name, after_word, copy_name, join};
-use crate::types::{base, star, type_of};
+use crate::types::{BasePiece, base, star, type_of};
 use c_token::Token;
 use c_tree::{Member, Members, Name, ProcItem, Span, Stmt, StructDef, TypeName};
 use sqlite_items::Items;
@@ -124,17 +125,31 @@ pub(crate) fn definition<'a>(
     })
 }
 
+/// The type of a base that stands here, with a star or without one.
+fn kind_of_base(parser: Parser, base: &BasePiece<'_>, starred: bool) -> Result<TypeName, ParseError>
+    ensures { Gives (λ kind. kind) result (type_of base.now.tree starred) }
+{
+    match type_of(parser.alloc, &base.tree, starred)? {
+        Some(kind) => Ok(kind),
+        None => Err(ParseError::Parse(parser.place(base.rest))),
+    }
+}
+
 fn type_name<'a>(parser: Parser, tokens: &'a [Token]) -> Result<TypePiece<'a>, ParseError>
     ensures { Gives type_piece result (read_type tokens.now) }
 {
     let base = base(parser, tokens)?;
-    let (at, rest, starred) = match star(base.rest) {
-        Some(star) => (join(base.at, star.at), star.rest, true),
-        None => (base.at, base.rest, false),
-    };
-    match type_of(parser.alloc, &base.tree, starred)? {
-        Some(tree) => Ok(TypePiece { tree, at, rest }),
-        None => Err(ParseError::Parse(parser.place(base.rest))),
+    match star(base.rest) {
+        Some(star) => Ok(TypePiece {
+            tree: kind_of_base(parser, &base, true)?,
+            at: join(base.at, star.at),
+            rest: star.rest,
+        }),
+        None => Ok(TypePiece {
+            tree: kind_of_base(parser, &base, false)?,
+            at: base.at,
+            rest: base.rest,
+        }),
     }
 }
 

@@ -22,6 +22,3 @@ mod units;
 
 pub use error::ParseError;
 pub use file::parse;
-
-#[cfg(test)]
-mod tests;

@@ -1,15 +1,16 @@
-ghost use Rattle.std.specs.Prelude.{◌≡◌, ◌≤◌, ◌<◌, IfOk};
-ghost use Rattle.c_grammar.specs.ReadStmts.{read_declarator, read_local, read_locals};
-ghost use Rattle.c_parser.specs.Views.{Gives};
+ghost use Rattle.std.specs.Prelude.{◌≡◌, ◌≤◌, ◌<◌, IfOk, option_and_then};
+ghost use Rattle.c_grammar.specs.ReadStmts.{declared, read_declarator, read_local, read_locals};
+ghost use Rattle.c_grammar.specs.Types.{type_of};
+ghost use Rattle.c_parser.specs.Views.{named_of, Gives};
 ghost use Rattle.c_parser.specs.StmtViews.{declared_of, stmt_part, stmts_row};
 
 use crate::error::ParseError;
 use crate::exprs::{EXPR_LINE, line};
-use crate::statement_parts::{StmtPart, StmtsRow, declared};
-use crate::tokens::{Parser, after_mark, copy_name, join};
+use crate::statement_parts::{StmtPart, StmtsRow, declared, declared_as};
+use crate::tokens::{Named, Parser, after_mark, copy_name, join};
 use crate::types::{base, star, type_of};
 use c_token::Token;
-use c_tree::{Member, Unit};
+use c_tree::{Member, Span, Unit};
 use sqlite_items::Items;
 
 /// A declarator, and the tokens after it.
@@ -27,16 +28,29 @@ pub(crate) fn declarator<'a>(
 ) -> Result<Declared<'a>, ParseError>
     ensures { Gives declared_of result (read_declarator base.now tokens.now) }
 {
-    let (named, at, starred) = match star(tokens) {
+    match star(tokens) {
         Some(star) => {
             let named = parser.name(star.rest)?;
-            (named, join(star.at, named.token.at), true)
+            let at = join(star.at, named.token.at);
+            typed(parser, base, true, named, at)
         }
         None => {
             let named = parser.name(tokens)?;
-            (named, named.token.at, false)
+            typed(parser, base, false, named, named.token.at)
         }
-    };
+    }
+}
+
+/// A name of this type.
+fn typed<'a>(
+    parser: Parser,
+    base: &Unit,
+    starred: bool,
+    named: Named<'a>,
+    at: Span,
+) -> Result<Declared<'a>, ParseError>
+    ensures { Gives declared_of result (option_and_then (declared (named_of named.entry) at) (type_of base.now starred)) }
+{
     let Some(kind) = type_of(parser.alloc, base, starred)? else {
         return Err(ParseError::Parse(named.token.at.start));
     };
@@ -60,13 +74,13 @@ fn local<'a>(
 {
     let declarator = declarator(parser, base, tokens)?;
     let Some(equals) = after_mark(declarator.rest, b"=") else {
-        return Ok(declared(declarator.member, None, declarator.rest));
+        return Ok(declared(declarator.member, declarator.rest));
     };
     if limit == 1 {
         return Err(ParseError::Parse(parser.place(declarator.rest)));
     }
     let source = line(parser, EXPR_LINE, limit - 1, equals.rest)?;
-    Ok(declared(declarator.member, Some(source), declarator.rest))
+    Ok(declared_as(declarator.member, source))
 }
 
 /// Variables of one base.

@@ -1,7 +1,7 @@
-ghost use Rattle.std.specs.Prelude.{◌≡◌, option_map};
+ghost use Rattle.std.specs.Prelude.{◌≡◌, map, option_map};
 ghost use Rattle.c_grammar.specs.Exprs.{operator_of};
 ghost use Rattle.c_grammar.specs.ReadExprs.{begins_sizeof, begins_base, is_base_kind};
-ghost use Rattle.c_parser.specs.Views.{operator_view, found_of, finder};
+ghost use Rattle.c_parser.specs.Views.{operator_view, row_view, listed, found_of, finder};
 
 use crate::tokens::is_word;
 use c_token::{Token, TokenKind};
@@ -21,26 +21,116 @@ pub(crate) struct Found<'a> {
     pub rest: &'a [Token],
 }
 
+const OPERATORS: [(&[u8], Operator); 13] = [
+    (
+        b"*",
+        Operator {
+            line: 1,
+            op: BinaryOp::Mul,
+        },
+    ),
+    (
+        b"/",
+        Operator {
+            line: 1,
+            op: BinaryOp::Div,
+        },
+    ),
+    (
+        b"%",
+        Operator {
+            line: 1,
+            op: BinaryOp::Rem,
+        },
+    ),
+    (
+        b"+",
+        Operator {
+            line: 2,
+            op: BinaryOp::Add,
+        },
+    ),
+    (
+        b"-",
+        Operator {
+            line: 2,
+            op: BinaryOp::Sub,
+        },
+    ),
+    (
+        b"<",
+        Operator {
+            line: 3,
+            op: BinaryOp::Lt,
+        },
+    ),
+    (
+        b"<=",
+        Operator {
+            line: 3,
+            op: BinaryOp::Le,
+        },
+    ),
+    (
+        b">",
+        Operator {
+            line: 3,
+            op: BinaryOp::Gt,
+        },
+    ),
+    (
+        b">=",
+        Operator {
+            line: 3,
+            op: BinaryOp::Ge,
+        },
+    ),
+    (
+        b"==",
+        Operator {
+            line: 4,
+            op: BinaryOp::Eq,
+        },
+    ),
+    (
+        b"!=",
+        Operator {
+            line: 4,
+            op: BinaryOp::Ne,
+        },
+    ),
+    (
+        b"&&",
+        Operator {
+            line: 5,
+            op: BinaryOp::And,
+        },
+    ),
+    (
+        b"||",
+        Operator {
+            line: 6,
+            op: BinaryOp::Or,
+        },
+    ),
+];
+
+/// The operator of the first row with this mark.
+fn listed(table: &[(&[u8], Operator)], mark: &[u8]) -> Option<Operator>
+    ensures { option_map operator_view result ≡ listed mark.now (map row_view table.entry.now) }
+{
+    for (spelling, operator) in table {
+        if mark == *spelling {
+            return Some(*operator);
+        }
+    }
+    None
+}
+
 fn operator_of(mark: &[u8]) -> Option<Operator>
     ensures { option_map operator_view result ≡ operator_of mark.now }
 {
-    let (line, op) = match mark {
-        b"*" => (1, BinaryOp::Mul),
-        b"/" => (1, BinaryOp::Div),
-        b"%" => (1, BinaryOp::Rem),
-        b"+" => (2, BinaryOp::Add),
-        b"-" => (2, BinaryOp::Sub),
-        b"<" => (3, BinaryOp::Lt),
-        b"<=" => (3, BinaryOp::Le),
-        b">" => (3, BinaryOp::Gt),
-        b">=" => (3, BinaryOp::Ge),
-        b"==" => (4, BinaryOp::Eq),
-        b"!=" => (4, BinaryOp::Ne),
-        b"&&" => (5, BinaryOp::And),
-        b"||" => (6, BinaryOp::Or),
-        _ => return None,
-    };
-    Some(Operator { line, op })
+    listed(&OPERATORS, mark)
 }
 
 /// An operator of this line at the front; where units may follow, but for one before `sizeof`.

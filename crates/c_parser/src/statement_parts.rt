@@ -1,16 +1,15 @@
-ghost use Rattle.std.specs.Prelude.{◌≡◌, ◌≤◌, ◌<◌, ◌+◌, ◌^◌, max, IfOk, option_map};
-ghost use Rattle.c_tree.specs.Plain.{do_call, free, when, while};
+ghost use Rattle.std.specs.Prelude.{◌≡◌, ◌≤◌, ◌<◌, ◌+◌, ◌^◌, max, pos, IfOk, option_map};
+ghost use Rattle.c_tree.specs.Plain.{num, binary, arrow, do_call, free, when, while};
 ghost use Rattle.c_tree.specs.View.{expr_view};
-ghost use Rattle.std.specs.Option.{ForSome};
 ghost use Rattle.c_grammar.specs.Parts.{join};
-ghost use Rattle.c_grammar.specs.Stmts.{holding, assigned, stepped, blocked, governed, chosen, repeated};
+ghost use Rattle.c_grammar.specs.Stmts.{holding, declared_as, assigned, stepped, blocked, governed, chosen, repeated};
 ghost use Rattle.c_parser.specs.Views.{expr_part};
-ghost use Rattle.c_parser.specs.StmtViews.{stmt_part, boxed_part, stmts_row, heading_row, path_of, declared_with};
+ghost use Rattle.c_parser.specs.StmtViews.{stmt_part, boxed_part, stmts_row, heading_row, path_of, declared};
 
 use crate::parts::ExprPart;
 use crate::tokens::{Front, copy_name, join};
 use c_token::Token;
-use c_tree::{BinaryOp, Expr, ExprForm, Member, Span, Stmt, StmtForm, Stmts};
+use c_tree::{BinaryOp, Expr, ExprForm, Member, Name, Span, Stmt, StmtForm, Stmts};
 use sqlite_items::Boxed;
 use std::alloc::{AllocError, Global};
 
@@ -75,6 +74,22 @@ pub(crate) fn call_only<'a>(call: ExprPart<'a>) -> StmtPart<'a>
     }
 }
 
+/// One more or less than a path holds; the sum and its 1 have this span.
+fn changed_by_one(alloc: Global, op: BinaryOp, at: Span, path: Expr) -> Result<Expr, AllocError>
+    ensures { IfOk result (λ e. expr_view e ≡ binary at op (expr_view path) (num at (pos 1))) }
+{
+    let one = Expr {
+        at,
+        form: ExprForm::Num(1),
+    };
+    let left = Boxed::new(alloc, path)?;
+    let right = Boxed::new(alloc, one)?;
+    Ok(Expr {
+        at,
+        form: ExprForm::Binary(op, left, right),
+    })
+}
+
 /// `path++` or `path--` as an assignment; the second tree is a copy of the path's.
 pub(crate) fn stepped<'a>(
     alloc: Global,
@@ -88,16 +103,7 @@ pub(crate) fn stepped<'a>(
     ensures { IfOk result (λ s. stmt_part s ≡ stepped op (expr_part path.entry) sign.entry.token.now sign.entry.rest.now) }
 {
     let at = join(path.at, sign.token.at);
-    let one = Expr {
-        at,
-        form: ExprForm::Num(1),
-    };
-    let left = Boxed::new(alloc, copy)?;
-    let right = Boxed::new(alloc, one)?;
-    let source = Expr {
-        at,
-        form: ExprForm::Binary(op, left, right),
-    };
+    let source = changed_by_one(alloc, op, at, copy)?;
     Ok(StmtPart {
         tree: Stmt {
             at,
@@ -109,23 +115,32 @@ pub(crate) fn stepped<'a>(
     })
 }
 
+fn arrow_copy(alloc: Global, at: Span, base: Expr, member: &Name) -> Result<Expr, AllocError>
+    ensures { IfOk result (λ e. expr_view e ≡ arrow at (expr_view base) member.now) }
+{
+    let member = copy_name(alloc, member)?;
+    let base = Boxed::new(alloc, base)?;
+    Ok(Expr {
+        at,
+        form: ExprForm::Arrow(base, member),
+    })
+}
+
 /// A copy of a path; none of another tree.
 pub(crate) fn path_copy(alloc: Global, tree: &Expr) -> Result<Option<Expr>, AllocError>
     ensures { IfOk result (λ o. option_map expr_view o ≡ path_of (expr_view tree.now)) }
 {
-    let form = match &tree.form {
-        ExprForm::Name(name) => ExprForm::Name(copy_name(alloc, name)?),
-        ExprForm::Arrow(base, member) => {
-            let Some(base) = path_copy(alloc, base.get())? else {
-                return Ok(None);
-            };
-            let member = copy_name(alloc, member)?;
-            let base = Boxed::new(alloc, base)?;
-            ExprForm::Arrow(base, member)
+    match &tree.form {
+        ExprForm::Name(name) => {
+            let form = ExprForm::Name(copy_name(alloc, name)?);
+            Ok(Some(Expr { at: tree.at, form }))
         }
-        _ => return Ok(None),
-    };
-    Ok(Some(Expr { at: tree.at, form }))
+        ExprForm::Arrow(base, member) => match path_copy(alloc, base.get())? {
+            Some(base) => Ok(Some(arrow_copy(alloc, tree.at, base, member)?)),
+            None => Ok(None),
+        },
+        _ => Ok(None),
+    }
 }
 
 pub(crate) fn freed<'a>(token: &Token, enclosed: ExprPart<'a>) -> StmtPart<'a>
@@ -144,32 +159,35 @@ pub(crate) fn freed<'a>(token: &Token, enclosed: ExprPart<'a>) -> StmtPart<'a>
     }
 }
 
-/// A declaration, with an initialiser where there is one.
-pub(crate) fn declared<'a>(
-    member: Member,
-    source: Option<ExprPart<'a>>,
-    rest: &'a [Token],
-) -> StmtPart<'a>
-    requires { ForSome source (λ p. p.depth + 1 < 2 ^ 32) }
-    ensures { stmt_part result ≡ declared_with member source.entry rest.entry.now }
+/// A declaration without an initialiser.
+pub(crate) fn declared<'a>(member: Member, rest: &'a [Token]) -> StmtPart<'a>
+    ensures { stmt_part result ≡ declared member rest.entry.now }
 {
-    let (at, depth, rest, source) = match source {
-        Some(part) => (
-            join(member.at, part.at),
-            part.depth + 1,
-            part.rest,
-            Some(part.tree),
-        ),
-        None => (member.at, 1, rest, None),
-    };
+    StmtPart {
+        tree: Stmt {
+            at: member.at,
+            form: StmtForm::Local(member.name, member.kind, None),
+        },
+        at: member.at,
+        depth: 1,
+        rest,
+    }
+}
+
+/// A declaration with its initialiser.
+pub(crate) fn declared_as<'a>(member: Member, source: ExprPart<'a>) -> StmtPart<'a>
+    requires { source.depth + 1 < 2 ^ 32 }
+    ensures { stmt_part result ≡ declared_as member (expr_part source.entry) }
+{
+    let at = join(member.at, source.at);
     StmtPart {
         tree: Stmt {
             at,
-            form: StmtForm::Local(member.name, member.kind, source),
+            form: StmtForm::Local(member.name, member.kind, Some(source.tree)),
         },
         at,
-        depth,
-        rest,
+        depth: source.depth + 1,
+        rest: source.rest,
     }
 }
 

@@ -1,21 +1,26 @@
-ghost use Rattle.std.specs.Prelude.{◌≡◌, ◌≤◌, ◌<◌, ◌+◌, suc, length, codes, is_some, IfOk, option_and_then};
-ghost use Rattle.c_grammar.specs.Reading.{after_mark};
-ghost use Rattle.c_grammar.specs.ReadStmts.{read_stmt, stmt_by, block_after, read_block, read_simple, simple_closed, read_enclosed, read_heading, read_first, read_condition, read_step, body, word_end, return_at, when_after, while_after, for_after};
-ghost use Rattle.c_parser.specs.Views.{Gives};
-ghost use Rattle.c_parser.specs.StmtViews.{stmt_part, stmts_row, heading_row, braced_of, condition_row, step_row, jump_of, chunk};
+ghost use Rattle.std.specs.Prelude.{◌≡◌, ◌≤◌, ◌<◌, ◌+◌, suc, length, codes, is_some, IfOk, OnOk, option_and_then};
+ghost use Rattle.c_tree.specs.Plain.{no_stmts};
+ghost use Rattle.c_tree.specs.View.{stmts_view};
+ghost use Rattle.c_grammar.specs.Stmts.{joined};
+ghost use Rattle.c_grammar.specs.Reading.{after_mark, after_word};
+ghost use Rattle.c_grammar.specs.ReadStmts.{one_stmt, read_stmt, stmt_by, block_after, read_block, read_simple, simple_closed, read_enclosed, heading_condition, heading_step, read_heading, read_first, read_condition, read_step, body, word_end, return_at, when_at, when_after, while_after, for_after};
+ghost use Rattle.c_parser.specs.Views.{expr_part, Gives};
+ghost use Rattle.c_parser.specs.StmtViews.{stmt_part, stmts_row, heading_row, braced_of, condition_row, step_row, jump_of, chunk_view, chunk_row, chunk};
 
 use crate::error::ParseError;
 use crate::exprs::{EXPR_LINE, line};
 use crate::locals::locals;
 use crate::operators::begins_base;
+use crate::parts::ExprPart;
 use crate::simple::{enclosed, simple};
 use crate::statement_parts::{
     HeadingRow, StmtPart, StmtsRow, blocked, boxed, chosen, conditional, looped, repeated,
 };
 use crate::tokens::{Parser, after_mark, after_word, is_mark, is_word, join};
 use c_token::Token;
-use c_tree::{Expr, Span, Stmt, StmtForm};
+use c_tree::{Expr, Span, Stmt, StmtForm, Stmts};
 use sqlite_items::{Boxed, Items};
+use std::alloc::AllocError;
 
 /// The condition of a `for`.
 #[derive(Drop)]
@@ -33,11 +38,51 @@ struct StepRow<'a> {
     rest: &'a [Token],
 }
 
+/// What stands in a block: the variables of one line of declarations, or one statement.
+#[derive(Drop)]
+enum Chunk {
+    Locals(Stmts),
+    One(Stmt),
+}
+
+/// A chunk of a block, and the tokens after it.
+#[derive(Drop)]
+struct ChunkRow<'a> {
+    chunk: Chunk,
+    depth: u32,
+    rest: &'a [Token],
+}
+
 /// A block, with the span of its closing brace.
 #[derive(Drop)]
 pub(crate) struct Braced<'a> {
     pub part: StmtPart<'a>,
     pub brace: Span,
+}
+
+/// No statements before these tokens.
+fn no_row<'a>(parser: Parser, tokens: &'a [Token]) -> StmtsRow<'a>
+    ensures { stmts_row result ≡ record { tree = no_stmts; depth = 0; rest = tokens.now } }
+{
+    StmtsRow {
+        items: Items::new(parser.alloc),
+        depth: 0,
+        rest: tokens,
+    }
+}
+
+/// A statement alone.
+fn one_row<'a>(parser: Parser, part: StmtPart<'a>) -> Result<StmtsRow<'a>, AllocError>
+    ensures row { IfOk result (λ r. stmts_row r ≡ one_stmt (stmt_part part.entry)) }
+    ensures depth { IfOk result (λ r. r.depth ≡ part.entry.depth) }
+{
+    let mut items = Items::new(parser.alloc);
+    items.push(part.tree)?;
+    Ok(StmtsRow {
+        items,
+        depth: part.depth,
+        rest: part.rest,
+    })
 }
 
 fn first_row<'a>(
@@ -49,24 +94,14 @@ fn first_row<'a>(
     ensures read { Gives stmts_row result (read_first limit tokens.now) }
     ensures within { IfOk result (λ r. r.depth ≤ limit) }
 {
-    let mut items = Items::new(parser.alloc);
     if after_mark(tokens, b";").is_some() {
-        return Ok(StmtsRow {
-            items,
-            depth: 0,
-            rest: tokens,
-        });
+        return Ok(no_row(parser, tokens));
     }
     if begins_base(tokens) {
         return locals(parser, limit, tokens);
     }
     let simple = simple(parser, limit, tokens)?;
-    items.push(simple.tree)?;
-    Ok(StmtsRow {
-        items,
-        depth: simple.depth,
-        rest: simple.rest,
-    })
+    Ok(one_row(parser, simple)?)
 }
 
 fn condition<'a>(
@@ -123,13 +158,41 @@ fn heading<'a>(
     ensures read { Gives heading_row result (read_heading limit tokens.now) }
     ensures within { IfOk result (λ h. h.depth ≤ limit) }
 {
-    let below = limit - 1;
     let opening = parser.mark(tokens, b"(")?;
-    let first = first_row(parser, below, opening.rest)?;
+    let first = first_row(parser, limit - 1, opening.rest)?;
+    heading_condition(parser, limit - 1, first)
+}
+
+/// What follows the first part of the parentheses of a `for`.
+fn heading_condition<'a>(
+    parser: Parser,
+    limit: u32,
+    first: StmtsRow<'a>,
+) -> Result<HeadingRow<'a>, ParseError>
+    requires room { limit < 200 }
+    requires depth { first.depth ≤ limit }
+    ensures read { Gives heading_row result (heading_condition limit (stmts_row first.entry)) }
+    ensures within { IfOk result (λ h. h.depth ≤ limit + 1) }
+{
     let semicolon = parser.mark(first.rest, b";")?;
-    let condition = condition(parser, below, semicolon.rest)?;
+    let condition = condition(parser, limit, semicolon.rest)?;
+    heading_step(parser, limit, first, condition)
+}
+
+fn heading_step<'a>(
+    parser: Parser,
+    limit: u32,
+    first: StmtsRow<'a>,
+    condition: ConditionRow<'a>,
+) -> Result<HeadingRow<'a>, ParseError>
+    requires room { limit < 200 }
+    requires first { first.depth ≤ limit }
+    requires condition { condition.depth ≤ limit }
+    ensures read { Gives heading_row result (heading_step limit (stmts_row first.entry) (condition_row condition.entry)) }
+    ensures within { IfOk result (λ h. h.depth ≤ limit + 1) }
+{
     let semicolon = parser.mark(condition.rest, b";")?;
-    let step = last_row(parser, below, semicolon.rest)?;
+    let step = last_row(parser, limit, semicolon.rest)?;
     let closing = parser.mark(step.rest, b")")?;
     Ok(HeadingRow {
         first: first.items,
@@ -333,10 +396,10 @@ fn stmts<'a>(parser: Parser, limit: u32, tokens: &'a [Token]) -> Result<StmtsRow
     let mut depth = 0;
     let mut rest = tokens;
     while !ends_block(rest) {
-        let row = chunk(parser, limit, rest)?;
-        items.append(row.items)?;
+        let row = next_chunk(parser, limit, rest)?;
         depth = row.depth.max(depth);
         rest = row.rest;
+        put(&mut items, row.chunk)?;
     }
     Ok(StmtsRow { items, depth, rest })
 }
@@ -348,27 +411,38 @@ pub(crate) fn ends_block(tokens: &[Token]) -> bool
     after_mark(tokens, b"}").is_some()
 }
 
+fn put(items: &mut Stmts, chunk: Chunk) -> Result<(), AllocError>
+    ensures { OnOk result (stmts_view items.new ≡ joined (stmts_view items.old) (chunk_view chunk)) }
+{
+    match chunk {
+        Chunk::Locals(locals) => items.append(locals),
+        Chunk::One(stmt) => items.push(stmt),
+    }
+}
+
 /// One line of declarations, or one statement.
 #[cycle(statement)]
-fn chunk<'a>(parser: Parser, limit: u32, tokens: &'a [Token]) -> Result<StmtsRow<'a>, ParseError>
+fn next_chunk<'a>(
+    parser: Parser,
+    limit: u32,
+    tokens: &'a [Token],
+) -> Result<ChunkRow<'a>, ParseError>
     requires { limit < 200 }
-    ensures read { Gives stmts_row result (chunk (read_stmt limit) limit tokens.now) }
-    ensures within { IfOk result (λ s. s.depth ≤ limit) }
+    ensures read { Gives chunk_row result (chunk (read_stmt limit) limit tokens.now) }
+    ensures within { IfOk result (λ r. r.depth ≤ limit) }
 {
     if begins_base(tokens) {
         let locals = locals(parser, limit, tokens)?;
         let semicolon = parser.mark(locals.rest, b";")?;
-        return Ok(StmtsRow {
-            items: locals.items,
+        return Ok(ChunkRow {
+            chunk: Chunk::Locals(locals.items),
             depth: locals.depth,
             rest: semicolon.rest,
         });
     }
     let stmt = stmt(parser, limit, tokens)?;
-    let mut items = Items::new(parser.alloc);
-    items.push(stmt.tree)?;
-    Ok(StmtsRow {
-        items,
+    Ok(ChunkRow {
+        chunk: Chunk::One(stmt.tree),
         depth: stmt.depth,
         rest: stmt.rest,
     })
@@ -391,6 +465,24 @@ fn when<'a>(
     }
     let condition = enclosed(parser, limit, tokens)?;
     let then = stmt(parser, limit, condition.rest)?;
+    alternative(parser, limit, token, condition, then)
+}
+
+/// The `else` after the first branch of an `if`, where one follows.
+#[cycle(statement)]
+fn alternative<'a>(
+    parser: Parser,
+    limit: u32,
+    token: &Token,
+    condition: ExprPart<'a>,
+    then: StmtPart<'a>,
+) -> Result<StmtPart<'a>, ParseError>
+    requires room { limit < 200 }
+    requires condition { condition.depth ≤ limit }
+    requires then { then.depth ≤ limit }
+    ensures read { Gives stmt_part result (when_at (read_stmt limit) token.now (expr_part condition.entry) (stmt_part then.entry) (after_word (codes "else") then.entry.rest.now)) }
+    ensures within { IfOk result (λ p. p.depth ≤ limit + 1) }
+{
     let Some(word) = after_word(then.rest, b"else") else {
         return Ok(conditional(parser.alloc, token, condition, then)?);
     };

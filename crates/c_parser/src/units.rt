@@ -106,10 +106,13 @@ fn after_one(tokens: &[Token]) -> Option<Front<'_>>
     ensures { option_map front_of result ≡ after_one tokens.now }
 {
     let (token, rest) = tokens.split_first()?;
-    match &token.kind {
-        TokenKind::Num(1) => Some(Front { token, rest }),
-        _ => None,
-    }
+    is_one(&token.kind).then_some(Front { token, rest })
+}
+
+fn is_one(kind: &TokenKind) -> bool
+    ensures { result ≡ is_one kind.now }
+{
+    matches!(kind, TokenKind::Num(1))
 }
 
 /// The rest of a `calloc`, after how many: a unit or the number 1.

@@ -33,10 +33,13 @@ abbrev pub decreases-size : goal.decreases-size
 decreases-size l = 8 * l.limit + 9
 
 abbrev pub decreases-step : goal.decreases-step
-decreases-step l = 8 * l.limit + 1
+decreases-step l = 8 * l.limit + 2
+
+abbrev pub decreases-element : goal.decreases-element
+decreases-element l = 8 * l.limit + 1
 
 abbrev pub decreases-steps : goal.decreases-steps
-decreases-steps l = 8 * l.limit + 2
+decreases-steps l = 8 * l.limit + 3
 
 abbrev pub decreases-sum_of : goal.decreases-sum_of
 decreases-sum_of l = 8 * l.limit + 2

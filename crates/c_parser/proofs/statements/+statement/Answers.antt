@@ -5,9 +5,9 @@ use Rattle.c_tree.specs.View.{stmts_view}
 use Rattle.c_grammar.specs.Stmts.{joined}
 use Rattle.c_grammar.specs.Reading.{after_mark}
 use Rattle.c_grammar.specs.ReadStmts.{read_stmt, body}
-use Rattle.c_parser.specs.StmtViews.{stmts_row}
+use Rattle.c_parser.specs.StmtViews.{stmts_row, chunk_row}
 use Rattle.c_parser.proofs.Stages.{refused}
-use Rattle.c_parser.proofs.StatementLoops.{view_both, body_more, body_refused, body_end, chunk_shorter, prepended_none, some_of, none_of}
+use Rattle.c_parser.proofs.StatementLoops.{body_more, body_refused, body_end, chunk_shorter, prepended_none, some_of, none_of}
 use Rattle.c_parser.proofs.Paths.{stmt_zero, stmt_below, enclosed_shallow}
 use Rattle.c_parser.proofs.statements.+statement.Goals as goal
 
@@ -26,18 +26,17 @@ pub while_loop-returns-then-limit-lt2-clause-read : goal.while_loop-returns-then
 while_loop-returns-then-limit-lt2-clause-read t c = rw (enclosed_shallow c.args.limit c.args.tokens.now c.if-limit-lt2.true) refl
 
 pub stmts-loop-parser-smaller : goal.stmts-loop-parser-smaller
-stmts-loop-parser-smaller t c = chunk_shorter c.args.limit c.loop-parser.rest.now (stmts_row c.in_ok-row.row) c.in_ok-row.ensures.read
+stmts-loop-parser-smaller t c = chunk_shorter c.args.limit c.loop-parser.rest.now (chunk_row c.in_ok-row.row) c.in_ok-row.ensures.read
 
 pub stmts-loop-parser-preserved : goal.stmts-loop-parser-preserved
 stmts-loop-parser-preserved t c =
     let inv = c.loop-parser.invariant.read in
-    let r = stmts_row c.in_ok-row.row in
+    let r = chunk_row c.in_ok-row.row in
     let read = c.in_ok-row.ensures.read in
     let less : length r.rest < length c.loop-parser.rest.now = chunk_shorter c.args.limit c.loop-parser.rest.now r read in
     let going : after_mark (codes "}") c.loop-parser.rest.now ≡ None = none_of (after_mark (codes "}") c.loop-parser.rest.now) (sym c.ends_block.ensures ∙ c.loop-parser-test.true) in
     let next = body_more inv.0 (read_stmt c.args.limit) c.args.limit (stmts_view c.loop-parser.items) c.loop-parser.depth c.loop-parser.rest.now r inv.1 less going read in
-    let shown : stmts_view c.append.new.self ≡ joined (stmts_view c.loop-parser.items) r.tree =
-    ap stmts_view c.in_ok-append.ensures ∙ view_both c.loop-parser.items c.in_ok-row.row.items in
+    let shown : stmts_view c.put.new.items ≡ joined (stmts_view c.loop-parser.items) r.tree = c.in_ok-put.ensures in
     record {
       within = rw c.max-depth.ensures (omega (arith, c.in_ok-row.ensures.within));
       read = (next.0, next.1, rw (shown, c.max-depth.ensures) (inv.2 ∙ next.2));

@@ -17,11 +17,14 @@ decreases-block_over l = 8 * l.limit + 4
 abbrev pub decreases-stmts : goal.decreases-stmts
 decreases-stmts l = 8 * l.limit + 3
 
-abbrev pub decreases-chunk : goal.decreases-chunk
-decreases-chunk l = 8 * l.limit + 1
+abbrev pub decreases-next_chunk : goal.decreases-next_chunk
+decreases-next_chunk l = 8 * l.limit + 1
 
 abbrev pub decreases-when : goal.decreases-when
-decreases-when l = 8 * l.limit + 1
+decreases-when l = 8 * l.limit + 2
+
+abbrev pub decreases-alternative : goal.decreases-alternative
+decreases-alternative l = 8 * l.limit + 1
 
 abbrev pub decreases-while_loop : goal.decreases-while_loop
 decreases-while_loop l = 8 * l.limit + 1
