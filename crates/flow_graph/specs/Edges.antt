@@ -199,17 +199,6 @@ abbrev mutual
   args is base n no_exprs q = ending q
   args is base n (expr e es) q = in_turn ((ways is base n e).run (temp is base n)) (args is base (n + node_count e) es) q
 
--- the test of a node with two operands, and whether its operands differ
-abbrev pub branch_of : List NodeInfo → ℕ → ℕ → Expr → Place → Place → Part
-branch_of is base n (binary at o a b) t f =
-    branched is base n (n + 1) (n + 1 + node_count a) o a b (ways is base (n + 1) a) (ways is base (n + 1 + node_count a) b) t f
-branch_of is base n _ t f = ending t
-
-abbrev pub difference_of : List NodeInfo → ℕ → ℕ → Expr → Place → Place → Part
-difference_of is base n (binary at o a b) t f =
-    difference is base n (n + 1) (n + 1 + node_count a) a b (ways is base (n + 1) a) (ways is base (n + 1 + node_count a) b) t f
-difference_of is base n _ t f = ending t
-
 -- a whole expression of a statement, whose first expression node it is
 
 abbrev pub valued : List NodeInfo → ℕ → Expr → Slot → Place → Part

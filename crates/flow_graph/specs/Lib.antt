@@ -5,3 +5,5 @@ pub mod Edges
 pub mod Numbers
 pub mod Strings
 pub mod GraphOf
+pub mod Paths
+pub mod Calls

@@ -1,3 +1,5 @@
+ghost use Rattle.std.specs.Prelude.{◌≡◌};
+
 use crate::numbers::Numbers;
 use c_tree::BinaryOp;
 
@@ -69,6 +71,20 @@ pub enum Action {
     Differ(u32, u32),
     /// A call: the result's slot where there is one, the procedure, the slots of all arguments.
     Call(Option<u32>, u32, Numbers),
+}
+
+impl Action {
+    ghost use Rattle.flow_graph.specs.Calls.{callee_of};
+
+    /// The procedure that a call calls; none for what is no call.
+    pub fn callee(&self) -> Option<u32>
+        ensures { result ≡ callee_of self.now }
+    {
+        match self {
+            Action::Call(_, callee, _) => Some(*callee),
+            _ => None,
+        }
+    }
 }
 
 /// An edge of a place: what a step along it does, and the place to which it leads.

@@ -10,6 +10,7 @@ mod exprs;
 mod flows;
 mod graph;
 mod keys;
+mod lowering;
 mod nodes;
 mod numbering;
 mod numbers;

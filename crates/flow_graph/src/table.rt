@@ -151,14 +151,14 @@ fn edge_number(alloc: Global, ns: &Numbering, e: &RawEdge) -> Result<Edge, Memor
     Ok(Edge { action, to })
 }
 
-/// So many places without edges.
+/// So many places without edges, with room for the one edge that most have.
 fn empty_rows(alloc: Global, count: usize) -> Result<Vec<Edges>, Memory>
     ensures { IfOk result (λ rows. rows.items ≡ replicate count []) }
 {
     let mut rows = Vec::new(alloc);
     for _i in 0..count {
         rows.push(Edges {
-            items: Vec::new(alloc),
+            items: Vec::with_capacity(alloc, 1)?,
         })?;
     }
     Ok(rows)
