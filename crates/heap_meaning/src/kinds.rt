@@ -1,5 +1,4 @@
 ghost use Rattle.std.specs.Prelude.{◌≡◌, ◌<◌};
-ghost use Rattle.c_types.specs.Types.{is_pointer};
 ghost use Rattle.flow_graph.specs.FlowGraph.{slot_type, members_of};
 ghost use Rattle.heap_meaning.specs.Reads.{cell_type};
 ghost use Rattle.heap_meaning.specs.Run.{put_as, first_cell};
@@ -44,16 +43,6 @@ pub(crate) fn type_of_cell(graph: &Graph, kind: Kind, place: u32) -> SlotType
     }
 }
 
-/// Whether values of a type are pointers.
-pub(crate) fn is_pointer(kind: SlotType) -> bool
-    ensures { result ≡ is_pointer kind }
-{
-    match kind {
-        SlotType::Int | SlotType::Char => false,
-        _ => true,
-    }
-}
-
 /// What a place of this type holds of a value that is put into it.
 pub(crate) fn put_as(kind: SlotType, value: Value) -> Value
     ensures { result ≡ put_as kind value }
@@ -70,7 +59,7 @@ pub(crate) fn first_cell(zeroed: bool, kind: SlotType) -> Value
 {
     if !zeroed {
         Value::Unset
-    } else if is_pointer(kind) {
+    } else if kind.is_pointer() {
         Value::Null
     } else {
         Value::Int(0)

@@ -3,7 +3,7 @@ ghost use Rattle.heap_meaning.specs.Run.{first_cell, first_cells, made, written,
 ghost use Rattle.heap_meaning.specs.Deeds.{argument_of};
 
 use crate::choices::{Write, Writes};
-use crate::kinds::{first_cell, is_pointer, members, put_as, type_of_cell};
+use crate::kinds::{first_cell, members, put_as, type_of_cell};
 use crate::numbers::stored;
 use crate::states::{Kind, Object, Objects};
 use crate::values::{Value, Values};
@@ -132,7 +132,7 @@ impl Objects {
             return;
         }
         let cell = type_of_cell(graph, kind, place);
-        if !is_pointer(cell) {
+        if !cell.is_pointer() {
             self.put(object, place, Value::Int(stored(cell, write.value)));
         }
     }

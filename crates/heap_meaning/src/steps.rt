@@ -36,6 +36,7 @@ pub fn first_state(alloc: Global, graph: &Graph) -> Result<State, Memory>
     ensures first { IfOk result (λ s. s ≡ first_state_of graph.now) }
     ensures shape { IfOk result (λ s. IsRunState graph.now s) }
 {
+    graph.law();
     let main = graph.main_proc();
     let slots = copies(alloc, Value::Unset, graph.slots(main).len())?;
     let frame = Frame {
@@ -293,6 +294,7 @@ pub fn step(
     if state.frames.count() == 0 {
         return Ok(Stepped::Ended);
     }
+    graph.law();
     let frame = state.frames.under(0);
     let has_body = frame.proc < graph.bodies();
     prove!(has_body);
