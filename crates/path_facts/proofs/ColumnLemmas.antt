@@ -1,5 +1,5 @@
 -- Rows over one action.
-use Rattle.std.proofs.Common.{◌≡◌, ℕ, ◌+◌, ◌<◌, Bool, true, false, cond, not, ◌&&◌, ◌||◌, List, [], ◌∷◌, ◌++◌, length, take, get_or, eqb, ◌∙◌, refl, sym, ap}
+use Rattle.std.proofs.Common.{◌≡◌, ℕ, ◌+◌, ◌<◌, Option, Bool, true, false, cond, not, ◌&&◌, ◌||◌, List, [], ◌∷◌, ◌++◌, length, take, get_or, eqb, ◌∙◌, refl, sym, ap}
 use Rattle.std.proofs.lemmas.List.{take_more}
 use Rattle.flow_graph.specs.Fits.{is_in}
 use Rattle.path_facts.specs.Columns.{but}
@@ -30,10 +30,10 @@ takes_fresh true false c = refl
 takes_fresh false true c = refl
 takes_fresh false false c = refl
 
-pub takes_more : (us old mid new : List ℕ) (i : ℕ) → i < length us → TakesArgs (take i us) old mid
-    → Becomes mid new (but (get_or us i 0) true (empty_bit mid)) (but (get_or us i 0) false (fresh_bit mid))
-    → TakesArgs (take (i + 1) us) old new
-takes_more us old mid new i within before step =
+pub takes_more : (tracks : List (Option ℕ)) (us old mid new : List ℕ) (i : ℕ) → i < length us → TakesArgs tracks (take i us) old mid
+    → Becomes tracks mid new (but (get_or us i 0) true (empty_bit tracks mid)) (but (get_or us i 0) false (fresh_bit tracks mid))
+    → TakesArgs tracks (take (i + 1) us) old new
+takes_more tracks us old mid new i within before step =
     let u = get_or us i 0 in
     let more : (k : ℕ) → is_in (take (i + 1) us) k ≡ (is_in (take i us) k || eqb k u) =
     λ k. ap (λ vs. is_in vs k) (take_more us i 0 within) ∙ is_in-push (take i us) u k in
@@ -41,9 +41,9 @@ takes_more us old mid new i within before step =
       len = step.len ∙ before.len;
       unreached = step.unreached ∙ before.unreached;
       empty = λ k.
-          step.empty k ∙ ap (λ b. cond (eqb k u) true b) (before.empty k) ∙ takes_empty (is_in (take i us) k) (eqb k u) (empty_bit old k)
-          ∙ ap (λ b. b || empty_bit old k) (sym (more k));
+          step.empty k ∙ ap (λ b. cond (eqb k u) true b) (before.empty k) ∙ takes_empty (is_in (take i us) k) (eqb k u) (empty_bit tracks old k)
+          ∙ ap (λ b. b || empty_bit tracks old k) (sym (more k));
       fresh = λ k.
-          step.fresh k ∙ ap (λ b. cond (eqb k u) false b) (before.fresh k) ∙ takes_fresh (is_in (take i us) k) (eqb k u) (fresh_bit old k)
-          ∙ ap (λ b. not b && fresh_bit old k) (sym (more k));
+          step.fresh k ∙ ap (λ b. cond (eqb k u) false b) (before.fresh k) ∙ takes_fresh (is_in (take i us) k) (eqb k u) (fresh_bit tracks old k)
+          ∙ ap (λ b. not b && fresh_bit tracks old k) (sym (more k));
     }

@@ -1,6 +1,7 @@
 pub mod BitLemmas
 pub mod ColumnLemmas
 pub mod PathLemmas
+pub mod TrackLemmas
 pub mod RowLemmas
 pub mod SearchLemmas
 pub mod TableLemmas

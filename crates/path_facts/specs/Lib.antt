@@ -1,6 +1,7 @@
 pub mod Columns
 pub mod Paths
 pub mod Tables
+pub mod Tracks
 pub mod Bits
 pub mod Rows
 pub mod Progress

@@ -1,7 +1,7 @@
 ghost use Rattle.std.specs.Prelude.{ℕ, ◌<◌, length};
 ghost use Rattle.flow_graph.specs.FlowGraph.{FlowGraph, flow_of, edges_from};
 ghost use Rattle.flow_graph.specs.Fits.{IsFlowGraph};
-ghost use Rattle.path_facts.specs.Paths.{IsReached};
+ghost use Rattle.flow_graph.specs.Paths.{IsReached};
 ghost use Rattle.path_facts.specs.Tables.{FactTables, HasSlot, AreFactsOf, AreFactsAtStart, AreFactsOver};
 
 /// What the facts of a graph keep; it does nothing. At the entry no parameter is Empty and nothing is Fresh, and the

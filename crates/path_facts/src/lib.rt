@@ -15,6 +15,7 @@ mod row;
 mod solve;
 mod start;
 mod table;
+mod tracks;
 mod worklist;
 
 pub use known::Facts;

@@ -10,7 +10,7 @@ use std::alloc::Global;
 /// The facts of a graph. Its one refusal is want of memory.
 ///
 /// It follows the edges of each place once, and again only where the facts at the place became fewer. An edge takes two
-/// passes over a row, which has two bits for each slot.
+/// passes over a row, which has two bits for each pointer, parameter and result of a call; of other slots it has none.
 pub fn facts(alloc: Global, graph: &Graph) -> Result<Facts, Memory>
     ensures { IfOk result (λ f. AreFactsOf graph.now f) }
 {

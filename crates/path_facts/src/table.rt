@@ -2,8 +2,10 @@ ghost use Rattle.std.specs.Prelude.{◌≡◌, ◌<◌, [], length, slice_index_
 ghost use Rattle.flow_graph.specs.Fits.{IsFlowGraph};
 ghost use Rattle.path_facts.specs.Tables.{facts_in, IsTableOf};
 
+use crate::columns::{is_empty, is_fresh};
 use crate::order::order_of;
 use crate::row::Row;
+use crate::tracks::tracks_of;
 use crate::worklist::Worklist;
 use c_tree::Memory;
 use flow_graph::Graph;
@@ -14,7 +16,8 @@ use std::marker::Model;
 #[derive(Drop)]
 pub(crate) struct Table {
     pub rows: Vec<Row>,
-    pub slots: usize,
+    /// For each slot, by which number the rows track it, where they do.
+    pub tracks: Vec<Option<u32>>,
 }
 
 impl Model for Table {
@@ -23,9 +26,9 @@ impl Model for Table {
 
     ghost Value = { FactTable };
 
-    ghost view = { λ t. rows_facts t.slots t.rows.items };
+    ghost view = { λ t. rows_facts t.tracks.items t.rows.items };
 
-    ghost invariant = { λ t. AreWide t.slots t.rows.items };
+    ghost invariant = { λ t. AreWide t.tracks.items t.rows.items };
 }
 
 impl Table {
@@ -36,11 +39,12 @@ impl Table {
         ensures { IfOk result (λ t. IsTableOf graph.now proc t) }
     {
         let order = order_of(alloc, graph, proc)?;
-        let mut work = Worklist::new(alloc, graph, proc)?;
-        work.settle(graph, proc, order.as_slice());
+        let tracks = tracks_of(alloc, graph, proc)?;
+        let mut work = Worklist::new(alloc, graph, proc, tracks.as_slice())?;
+        work.settle(graph, proc, tracks.as_slice(), order.as_slice());
         Ok(Table {
             rows: work.rows,
-            slots: graph.slots(proc).len(),
+            tracks,
         })
     }
 
@@ -50,7 +54,7 @@ impl Table {
         requires slot { slot < length (slice_index_or self.now place []) }
         ensures { result ≡ (facts_in self.now place slot).empty }
     {
-        self.rows[place as usize].has(2 * slot as usize + 1)
+        is_empty(&self.rows[place as usize], self.tracks.as_slice(), slot)
     }
 
     /// Whether a slot is Fresh at a place.
@@ -59,6 +63,6 @@ impl Table {
         requires slot { slot < length (slice_index_or self.now place []) }
         ensures { result ≡ (facts_in self.now place slot).fresh }
     {
-        self.rows[place as usize].has(2 * slot as usize + 2)
+        is_fresh(&self.rows[place as usize], self.tracks.as_slice(), slot)
     }
 }

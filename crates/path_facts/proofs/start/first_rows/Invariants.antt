@@ -4,6 +4,6 @@ use Rattle.path_facts.proofs.start.first_rows.Given as goal
 
 abbrev pub invariant-places : goal.invariant-places
 invariant-places l = record {
-  rows : AreFirstRows l.graph l.proc l.rows.items;
+  rows : AreFirstRows l.graph l.proc l.tracks l.rows.items;
   count : length l.rows.items ≡ l.counter;
 }

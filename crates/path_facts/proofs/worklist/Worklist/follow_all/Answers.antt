@@ -6,7 +6,7 @@ use Rattle.path_facts.proofs.worklist.Worklist.follow_all.Goals as goal
 pub edges-init : goal.edges-init
 edges-init c = record {
   work = c.requires.work;
-  followed = followed_none c.args.graph.now c.args.proc c.args.place c.args.self.now.rows.items c.args.self.now.pending.items;
+  followed = followed_none c.args.graph.now c.args.proc c.args.tracks.now c.args.place c.args.self.now.rows.items c.args.self.now.pending.items;
 }
 
 pub follow-changed-requires : goal.follow-changed-requires
@@ -18,6 +18,7 @@ follow-changed-requires c =
     record {
       graph = c.requires.graph;
       body = c.requires.body;
+      tracks = c.requires.tracks;
       work = c.edges.invariant.work;
       place = omega arith;
       edge = omega arith;
@@ -27,7 +28,7 @@ follow-changed-requires c =
 pub edges-preserved : goal.edges-preserved
 edges-preserved c = record {
   work = c.follow-changed.ensures.work;
-  followed = followed_more c.args.graph.now c.args.proc c.args.place c.edges.number _ _ _ _ _ _ _ _ c.edges.invariant.followed c.follow-changed.ensures.followed;
+  followed = followed_more c.args.graph.now c.args.proc c.args.tracks.now c.args.place c.edges.number _ _ _ _ _ _ _ _ c.edges.invariant.followed c.follow-changed.ensures.followed;
 }
 
 pub returns : goal.returns

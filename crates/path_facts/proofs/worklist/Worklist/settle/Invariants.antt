@@ -3,8 +3,8 @@ use Rattle.path_facts.proofs.worklist.Worklist.settle.Given as goal
 
 abbrev pub invariant-sweeps : goal.invariant-sweeps
 invariant-sweeps l = record {
-  work : IsWorklist l.graph l.proc l.self.rows.items l.self.pending.items l.self.after;
-  settled : IsSettled l.graph l.proc l.self.rows.items l.self.pending.items;
+  work : IsWorklist l.graph l.proc l.tracks l.self.rows.items l.self.pending.items l.self.after;
+  settled : IsSettled l.graph l.proc l.tracks l.self.rows.items l.self.pending.items;
 }
 
 abbrev pub decreases-sweeps : goal.decreases-sweeps
