@@ -7,7 +7,8 @@ use Rattle.std.specs.List.{Contains, All}
 use Rattle.flow_graph.specs.declared.action.Edge.{Edge}
 use Rattle.flow_graph.specs.FlowGraph.{FlowGraph, flow_of, edges_from}
 use Rattle.flow_graph.specs.Fits.{IsFlowGraph}
-use Rattle.recursion_groups.specs.Calls.{callee_of, Calls, Leads, Reaches}
+use Rattle.flow_graph.specs.Calls.{callee_of}
+use Rattle.recursion_groups.specs.Calls.{Calls, Leads, Reaches}
 use Rattle.recursion_groups.specs.Found.{Numbers, has, Gains}
 use Rattle.recursion_groups.specs.Rows.{IsCalled, AreCalls, IsRow}
 use Rattle.recursion_groups.proofs.FoundLemmas.{contains_none, gains_kept, gains_longer, gains_then, gains_as, not_has, contains_from_has}

@@ -253,6 +253,13 @@ module _ (g : FlowGraph) (rows : List (List Bool)) (are : AreRows g rows) (s t :
   is_apart : (a : ℕ) → Contains ps a → Contains s.items a → ⊥
   is_apart a h k = not_has s.items p ready.outside (reached_placed a p k (in_class g rows are p lp a h).1)
 
+  pub none_mutual : (q : ℕ) → q < g.bodies → has s.items q ≡ true → are_mutual rows p q ≡ false
+  none_mutual q lt placed =
+      elim (cases_Bool (are_mutual rows p q)) [
+        | inl both ↦ absurd (is_apart q (passing_from (are_mutual rows p) g.bodies q lt both) (contains_from_has s.items q placed))
+        | inr other ↦ other
+      ]
+
   -- a procedure below p that is not placed is not ready
   none_below : (a : ℕ) → a < p → a < g.bodies → (Contains (flat pss) a → ⊥) → IsReady g (flat pss) a → ⊥
   none_below a below la out is =
@@ -306,6 +313,14 @@ module _ (g : FlowGraph) (rows : List (List Bool)) (are : AreRows g rows) (s t :
     waits = waits_later rows s t (Contains ps) next_waits h w;
     count = omega (arith, length_push pss ps, was.count, grows h);
   }
+
+-- nothing that is placed is in the next group
+pub group_apart : (g : FlowGraph) (rows found_rows group_rows : List (List Bool)) → AreRows g rows → (s : Numbers) (waits : List ℕ) (pss : List (List ℕ)) (p : ℕ) → IsProgress g rows s waits pss
+    → found_rows ≡ rows → group_rows ≡ rows → IsFirstReady found_rows s.items p → (q : ℕ) → q < length group_rows → has s.items q ≡ true → are_mutual group_rows p q ≡ false
+group_apart g rows found_rows group_rows are s waits pss p was found group ready q lt placed =
+    let here : IsFirstReady rows s.items p = subst (λ rs. IsFirstReady rs s.items p) found ready in
+    let body : q < g.bodies = omega (arith, ap length group, are.count) in
+    rw group (none_mutual g rows are s s waits waits pss p was here q body placed)
 
 -- the same where the group, and the rows at which it and its first procedure were found, are equal to these
 module _ (g : FlowGraph) (rows found_rows group_rows : List (List Bool)) (are : AreRows g rows) (s t : Numbers) (waits next_waits last_waits : List ℕ) (pss qss : List (List ℕ)) (p : ℕ) (ps qs : List ℕ)

@@ -1,15 +1,9 @@
 -- Who calls whom.
-use Rattle.std.specs.Prelude.{◌≡◌, ℕ, ◌<◌, List, [], ◌∷◌, Option, Some, None}
+use Rattle.std.specs.Prelude.{◌≡◌, ℕ, ◌<◌, List, [], ◌∷◌, Some}
 use Rattle.std.specs.List.{Contains}
-use Rattle.flow_graph.specs.declared.action.Action.{Action}
-use Rattle.flow_graph.specs.declared.action.Action.TheVariants as act
 use Rattle.flow_graph.specs.declared.action.Edge.{Edge}
 use Rattle.flow_graph.specs.FlowGraph.{FlowGraph, edges_from}
-
--- the procedure that an action calls
-abbrev pub callee_of : Action → Option ℕ
-callee_of (act.Call r callee us) = Some callee
-callee_of _ = None
+use Rattle.flow_graph.specs.Calls.{callee_of}
 
 -- an edge of the body of p calls q, which has a body too
 pub record Calls (g : FlowGraph) (p q : ℕ) : Type 0 where

@@ -3,7 +3,8 @@ use Rattle.std.specs.Prelude.{◌≡◌, ℕ, ◌<◌, ◌≤◌, zero, suc, Boo
 use Rattle.std.specs.List.{Contains}
 use Rattle.flow_graph.specs.FlowGraph.{FlowGraph}
 use Rattle.flow_graph.specs.declared.action.Edge.{Edge}
-use Rattle.recursion_groups.specs.Calls.{callee_of, Calls, Reaches}
+use Rattle.flow_graph.specs.Calls.{callee_of}
+use Rattle.recursion_groups.specs.Calls.{Calls, Reaches}
 use Rattle.recursion_groups.specs.Found.{has}
 use Rattle.std.specs.Prelude.{◌↔◌, Some}
 

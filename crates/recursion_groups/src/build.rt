@@ -21,7 +21,7 @@ pub fn groups(alloc: Global, graph: &Graph) -> Result<Groups, Memory>
     let mut waits = vec![in alloc; 0; rows.len()]?;
     let mut items = Vec::new(alloc);
     while let Some(proc) = first_ready(&rows, &placed, &mut waits) {
-        let group = group_of(alloc, &rows, proc)?;
+        let group = group_of(alloc, &rows, &placed, proc)?;
         placed.add_all(&group.items)?;
         items.push(group)?;
     }

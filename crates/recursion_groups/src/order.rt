@@ -1,4 +1,5 @@
-ghost use Rattle.std.specs.Prelude.{◌≡◌, ◌<◌, ◌≤◌, ◌^◌, length, MatchOption, IfOk, true};
+ghost use Rattle.std.specs.Prelude.{◌≡◌, ℕ, ◌<◌, ◌≤◌, ◌^◌, length, MatchOption, IfOk, true, false};
+ghost use Rattle.recursion_groups.specs.Found.{has};
 ghost use Rattle.recursion_groups.specs.Rows.{reach, are_mutual, blocks, NoneBlocks, AreWaits, AreSquare, AreBlocked, IsFirstReady, passing};
 
 use crate::found::Found;
@@ -36,7 +37,7 @@ fn is_blocked_by(rows: &[Bits], placed: &Found, proc: u32, other: u32) -> bool
     requires other { other < length rows.now }
     ensures { result ≡ blocks rows.now placed.now.items proc other }
 {
-    reaches(rows, proc, other) && !reaches(rows, other, proc) && !placed.has(other)
+    !placed.has(other) && reaches(rows, proc, other) && !reaches(rows, other, proc)
 }
 
 /// The first procedure from this one on that blocks `proc`, or how many there are.
@@ -86,16 +87,23 @@ pub(crate) fn first_ready(rows: &[Bits], placed: &Found, waits: &mut [u32]) -> O
     None
 }
 
-/// The procedures that reach a procedure and that it reaches, ascending.
-pub(crate) fn group_of(alloc: Global, rows: &[Bits], proc: u32) -> Result<Numbers, Memory>
+/// The procedures that reach a procedure and that it reaches, ascending. None of them is in a group yet.
+pub(crate) fn group_of(
+    alloc: Global,
+    rows: &[Bits],
+    placed: &Found,
+    proc: u32,
+) -> Result<Numbers, Memory>
     requires square { AreSquare rows.now }
+    requires bound { placed.now.bound ≡ length rows.now }
+    requires apart { (q : ℕ) → q < length rows.now → has placed.now.items q ≡ true → are_mutual rows.now proc q ≡ false }
     requires proc { proc < length rows.now }
     requires count { length rows.now < 2 ^ 32 }
     ensures { IfOk result (λ ps. ps ≡ passing (are_mutual rows.now proc) (length rows.now)) }
 {
     let mut items = Vec::new(alloc);
     for other in 0..rows.len() as u32 {
-        if are_mutual(rows, proc, other) {
+        if !placed.has(other) && are_mutual(rows, proc, other) {
             items.push(other)?;
         }
     }

@@ -2,7 +2,8 @@ ghost use Rattle.std.specs.Prelude.{◌≡◌, ℕ, ◌<◌, ◌≤◌, ◌↔�
 ghost use Rattle.std.specs.List.{Contains};
 ghost use Rattle.flow_graph.specs.FlowGraph.{edges_from, flow_of};
 ghost use Rattle.flow_graph.specs.Fits.{IsFlowGraph};
-ghost use Rattle.recursion_groups.specs.Calls.{callee_of, Calls};
+ghost use Rattle.flow_graph.specs.Calls.{callee_of};
+ghost use Rattle.recursion_groups.specs.Calls.{Calls};
 ghost use Rattle.recursion_groups.specs.Found.{Gains};
 ghost use Rattle.recursion_groups.specs.Rows.{IsCalled, AreCalls, IsRow, AreRows};
 

@@ -2,8 +2,13 @@ use Rattle.std.proofs.Common.{rules, ◌<◌, [], ◌∙◌, arith}
 use Rattle.std.proofs.lemmas.List.{take_at}
 use Rattle.recursion_groups.specs.Found.{has}
 use Rattle.recursion_groups.proofs.CallLemmas.{all_from_contains}
-use Rattle.recursion_groups.proofs.OrderLemmas.{total_within, round_requires, round_grows, round_keeps, progress_ends, progress_count}
+use Rattle.recursion_groups.proofs.OrderLemmas.{total_within, group_apart, round_requires, round_grows, round_keeps, progress_ends, progress_count}
 use Rattle.recursion_groups.proofs.build.groups.Goals as goal
+
+pub group_of-requires-clause-apart : goal.group_of-requires-clause-apart
+group_of-requires-clause-apart c =
+    group_apart c.args.graph.now c.in_ok-rows.rows.items _ _ c.in_ok-rows.ensures c.loop-proc.placed _ _ c.in-Some.proc c.loop-proc.invariant c.deref.ensures.value
+    c.deref-in-Some.ensures.value c.in-Some.ensures.first
 
 pub add_all-requires : goal.add_all-requires
 add_all-requires c =
