@@ -1,14 +1,17 @@
 ghost use Rattle.std.specs.Prelude.{◌≡◌, ◌<◌, ◌≤◌, length, IfOk, IfErr, OnOk};
 ghost use Rattle.std.specs.List.{All};
 ghost use Rattle.std.specs.List.Sorted.{IsStrictlyIncreasing};
+ghost use Rattle.owner_vars.specs.Fields.{structs_of};
 ghost use Rattle.owner_vars.specs.Unknowns.{unknowns, root_unknowns};
 ghost use Rattle.owner_vars.specs.Answers.{IsRefused};
 
 use crate::error::NumberError;
+use crate::field_table::Fields;
+use crate::field_walk::fields;
 use crate::index::Index;
 use crate::numbering::Numbering;
-use crate::sites::callees;
-use crate::tables::{make_faces, make_ranges, make_rows};
+use crate::site_walk::sites;
+use crate::tables::{graph_law, make_faces, make_rows};
 use c_tree::Memory;
 use c_types::LimitKind;
 use flow_graph::Graph;
@@ -27,13 +30,33 @@ pub fn number(alloc: Global, graph: &Graph, members: &[u32]) -> Result<Numbering
     ensures within { OnOk result (length (unknowns graph.now members.now) ≤ 8388608) }
     ensures err { IfErr result (IsRefused (unknowns graph.now members.now)) }
 {
-    let _ = graph.procs();
-    let ranges = make_ranges(alloc, graph)?;
+    let fields = fields(alloc, graph)?;
+    number_with(alloc, graph, &fields, members)
+}
+
+/// The same over the pointer fields of the graph, which are made once for all groups. It takes time and memory linear
+/// in the places and sites of the group.
+pub fn number_with(
+    alloc: Global,
+    graph: &Graph,
+    fields: &Fields,
+    members: &[u32],
+) -> Result<Numbering, NumberError>
+    requires fields { fields.now ≡ structs_of graph.now }
+    requires ascend { IsStrictlyIncreasing members.now }
+    requires bodies { All (λ k. k < graph.now.bodies) members.now }
+    ensures ok { IfOk result (λ us. us ≡ unknowns graph.now members.now) }
+    ensures within { OnOk result (length (unknowns graph.now members.now) ≤ 8388608) }
+    ensures err { IfErr result (IsRefused (unknowns graph.now members.now)) }
+{
+    graph_law(graph);
+    let sites = sites(alloc, graph, members)?;
+    let callees = sites.callees(alloc)?;
     let index = Index::new(alloc, members)?;
-    let faces = make_faces(alloc, graph, members, u64::from(ranges.count))?;
-    let callees = callees(alloc, graph, &index, members)?;
-    let sites = make_faces(alloc, graph, &callees, faces.end)?;
-    let rows = make_rows(alloc, graph, &ranges.items, members, sites.end)?;
+    let pointers = fields.count();
+    let faces = make_faces(alloc, graph, members, u64::from(pointers))?;
+    let called = make_faces(alloc, graph, &callees, faces.end)?;
+    let rows = make_rows(alloc, graph, fields, members, called.end)?;
     if rows.end > MOST_UNKNOWNS {
         return Err(NumberError::Limit {
             kind: LimitKind::Unknowns,
@@ -41,10 +64,10 @@ pub fn number(alloc: Global, graph: &Graph, members: &[u32]) -> Result<Numbering
         });
     }
     Ok(Numbering {
-        fields: ranges.count,
+        fields: pointers,
         members: index,
         faces: faces.items,
-        sites: sites.items,
+        sites: called.items,
         rows: rows.items,
         count: rows.end as u32,
     })
@@ -57,11 +80,27 @@ pub fn number_root(alloc: Global, graph: &Graph, firsts: &[u32]) -> Result<Numbe
     requires count { length firsts.now ≤ graph.now.bodies }
     ensures { IfOk result (λ us. us ≡ root_unknowns graph.now firsts.now) }
 {
-    let _ = graph.procs();
-    let ranges = make_ranges(alloc, graph)?;
-    let sites = make_faces(alloc, graph, firsts, u64::from(ranges.count))?;
+    let fields = fields(alloc, graph)?;
+    number_root_with(alloc, graph, &fields, firsts)
+}
+
+/// The same over the pointer fields of the graph.
+pub fn number_root_with(
+    alloc: Global,
+    graph: &Graph,
+    fields: &Fields,
+    firsts: &[u32],
+) -> Result<Numbering, Memory>
+    requires fields { fields.now ≡ structs_of graph.now }
+    requires bodies { All (λ k. k < graph.now.bodies) firsts.now }
+    requires count { length firsts.now ≤ graph.now.bodies }
+    ensures { IfOk result (λ us. us ≡ root_unknowns graph.now firsts.now) }
+{
+    graph_law(graph);
+    let pointers = fields.count();
+    let sites = make_faces(alloc, graph, firsts, u64::from(pointers))?;
     Ok(Numbering {
-        fields: ranges.count,
+        fields: pointers,
         members: Index::new(alloc, &[])?,
         faces: Vec::new(alloc),
         sites: sites.items,

@@ -4,28 +4,17 @@ ghost use Rattle.std.specs.List.Sorted.{IsStrictlyIncreasing};
 ghost use Rattle.c_types.specs.Types.{is_pointer};
 ghost use Rattle.flow_graph.specs.FlowGraph.{flow_of};
 ghost use Rattle.flow_graph.specs.Fits.{pointer_count};
-ghost use Rattle.owner_vars.specs.Unknowns.{field_count, returns_pointer};
-ghost use Rattle.owner_vars.specs.Tables.{HasRange, ranges_of, range_behind, interface_size, face_of, faces_of, faces_end, slot_rows, slots_width, rows_of, all_rows, rows_end};
+ghost use Rattle.flow_graph.specs.Fits.{IsFlowGraph, TypeExists};
+ghost use Rattle.owner_vars.specs.Fields.{structs_of};
+ghost use Rattle.owner_vars.specs.Tables.{range_behind, interface_size, face_of, faces_of, faces_end, slot_rows, slots_width, rows_of, all_rows, rows_end};
 
+use crate::field_table::Fields;
 use c_tree::Memory;
 use c_types::SlotType;
 use flow_graph::Graph;
 use std::alloc::Global;
 use std::marker::Model;
-
-/// The pointer fields of a struct: the number of the first, and how many they are.
-#[derive(Clone, Copy)]
-pub(crate) struct Range {
-    pub first: u32,
-    pub count: u32,
-}
-
-/// The pointer fields of each struct, and how many there are in all.
-#[derive(Drop)]
-pub(crate) struct Ranges {
-    pub items: Vec<Range>,
-    pub count: u32,
-}
+use zo_core::NumberRange;
 
 /// The unknowns of an interface: how many stand before its first, how many pointer parameters it has, and whether
 /// its result is a pointer.
@@ -85,46 +74,22 @@ pub(crate) struct AllRows {
     pub end: u64,
 }
 
-fn is_pointer(kind: SlotType) -> bool
-    ensures { result ≡ is_pointer kind }
+/// What every graph keeps; it does nothing.
+pub(crate) fn graph_law(graph: &Graph)
+    ensures { IsFlowGraph graph.now }
 {
-    match kind {
-        SlotType::Int => false,
-        SlotType::Char => false,
-        SlotType::IntPtr => true,
-        SlotType::CharPtr => true,
-        SlotType::StructPtr(_) => true,
-    }
+    let _ = graph.bodies();
 }
 
 /// How many of these types are pointers.
-fn pointer_count(types: &[SlotType]) -> usize
+pub(crate) fn pointer_count(types: &[SlotType]) -> usize
     ensures { result ≡ pointer_count types.now }
 {
     let mut count = 0;
     for kind in types {
-        count += usize::from(is_pointer(*kind));
+        count += usize::from(kind.is_pointer());
     }
     count
-}
-
-/// The pointer fields of all structs.
-pub(crate) fn make_ranges(alloc: Global, graph: &Graph) -> Result<Ranges, Memory>
-    ensures items { IfOk result (λ r. r.items.items ≡ ranges_of graph.now) }
-    ensures count { IfOk result (λ r. r.count ≡ field_count graph.now) }
-{
-    let mut items = Vec::new(alloc);
-    let mut next = 1;
-    let _ = graph.procs();
-    for structure in 0..graph.structs() {
-        let count = pointer_count(graph.members(structure)) as u32;
-        items.push(Range { first: next, count })?;
-        next += count;
-    }
-    Ok(Ranges {
-        items,
-        count: next - 1,
-    })
 }
 
 /// The interface of a procedure.
@@ -133,11 +98,11 @@ fn make_face(graph: &Graph, before: u64, proc: u32) -> Face
     ensures face { result ≡ face_of graph.now before proc }
     ensures small { interface_size graph.now proc ≤ 9 }
 {
-    let _ = graph.procs();
+    graph_law(graph);
     Face {
         before,
         params: pointer_count(graph.params(proc)) as u32,
-        result: graph.result(proc).is_some_and(is_pointer),
+        result: graph.result(proc).is_some_and(SlotType::is_pointer),
     }
 }
 
@@ -164,29 +129,31 @@ pub(crate) fn make_faces(
 }
 
 /// The pointer fields of the struct to which a pointer of this type leads.
-fn behind(ranges: &[Range], kind: SlotType) -> Range
-    requires { HasRange ranges.now kind }
-    ensures { result ≡ range_behind ranges.now kind }
+fn behind(fields: &Fields, kind: SlotType) -> NumberRange
+    requires { TypeExists fields.now kind }
+    ensures range { result ≡ range_behind fields.now kind }
+    ensures few { result.count ≤ 64 }
 {
     match kind {
-        SlotType::StructPtr(structure) => ranges[structure as usize],
-        _ => Range { first: 0, count: 0 },
+        SlotType::StructPtr(structure) => fields.range(structure),
+        SlotType::Int | SlotType::Char | SlotType::IntPtr | SlotType::CharPtr => {
+            NumberRange { first: 0, count: 0 }
+        }
     }
 }
 
 /// The slots of these types.
-fn make_slot_rows(alloc: Global, ranges: &[Range], types: &[SlotType]) -> Result<SlotRows, Memory>
-    requires ranges { All (λ r. r.count ≤ 64) ranges.now }
-    requires types { All (HasRange ranges.now) types.now }
+fn make_slot_rows(alloc: Global, fields: &Fields, types: &[SlotType]) -> Result<SlotRows, Memory>
+    requires types { All (TypeExists fields.now) types.now }
     requires count { length types.now < 2 ^ 25 }
-    ensures items { IfOk result (λ s. s.items.items ≡ slot_rows ranges.now types.now) }
-    ensures width { IfOk result (λ s. s.width ≡ slots_width ranges.now types.now) }
+    ensures items { IfOk result (λ s. s.items.items ≡ slot_rows fields.now types.now) }
+    ensures width { IfOk result (λ s. s.width ≡ slots_width fields.now types.now) }
 {
     let mut items = Vec::new(alloc);
     let mut width = 0;
     for kind in types {
-        let pointer = is_pointer(*kind);
-        let range = behind(ranges, *kind);
+        let pointer = kind.is_pointer();
+        let range = behind(fields, *kind);
         items.push(SlotRow {
             before: width,
             pointer,
@@ -204,16 +171,16 @@ fn make_slot_rows(alloc: Global, ranges: &[Range], types: &[SlotType]) -> Result
 fn rows_from(
     alloc: Global,
     graph: &Graph,
-    ranges: &[Range],
+    fields: &Fields,
     before: u64,
     proc: u32,
 ) -> Result<Rows, Memory>
     requires body { proc < graph.now.bodies }
-    requires ranges { ranges.now ≡ ranges_of graph.now }
+    requires fields { fields.now ≡ structs_of graph.now }
     ensures { IfOk result (λ r. r ≡ rows_of graph.now before proc) }
 {
-    let _ = graph.procs();
-    let slots = make_slot_rows(alloc, ranges, graph.slots(proc))?;
+    graph_law(graph);
+    let slots = make_slot_rows(alloc, fields, graph.slots(proc))?;
     Ok(Rows {
         before,
         width: slots.width,
@@ -226,22 +193,22 @@ fn rows_from(
 pub(crate) fn make_rows(
     alloc: Global,
     graph: &Graph,
-    ranges: &[Range],
+    fields: &Fields,
     members: &[u32],
     before: u64,
 ) -> Result<AllRows, Memory>
     requires ascend { IsStrictlyIncreasing members.now }
     requires bodies { All (λ k. k < graph.now.bodies) members.now }
-    requires ranges { ranges.now ≡ ranges_of graph.now }
+    requires fields { fields.now ≡ structs_of graph.now }
     requires fits { before < 2 ^ 40 }
     ensures items { IfOk result (λ r. r.items.items ≡ all_rows graph.now before members.now) }
     ensures end { IfOk result (λ r. r.end ≡ rows_end graph.now before members.now) }
 {
     let mut items = Vec::new(alloc);
     let mut end = before;
-    let _ = graph.procs();
+    graph_law(graph);
     for member in members {
-        let rows = rows_from(alloc, graph, ranges, end, *member)?;
+        let rows = rows_from(alloc, graph, fields, end, *member)?;
         let size = u64::from(rows.places) * u64::from(rows.width);
         items.push(rows)?;
         end += size;
