@@ -1,5 +1,5 @@
 -- No line of a text has a line feed in it.
-use Rattle.std.proofs.Common.{◌≡◌, ℕ, suc, ◌<◌, ◌^◌, ◌==◌, Bool, true, false, if◌then◌else◌, List, [], ◌∷◌, ◌++◌, length, map, refl, subst, ◌∙◌, decimal, codes, arith}
+use Rattle.std.proofs.Common.{◌≡◌, ℕ, suc, ◌<◌, ◌^◌, ◌==◌, Bool, true, false, if◌then◌else◌, List, [], ◌∷◌, ◌++◌, refl, subst, ◌∙◌, decimal, codes, arith}
 use Rattle.std.specs.List.{All}
 use Rattle.std.specs.Char.{is_ascii_digit}
 use Rattle.std.specs.Str.{all_ascii_digits}
@@ -7,13 +7,12 @@ use Rattle.zo_core.specs.Literals.{Literal}
 use Rattle.conflict_proof.specs.declared.derivation.How.{How}
 use Rattle.conflict_proof.specs.declared.derivation.How.TheVariants.{Axiom, Resolve, Inst}
 use Rattle.conflict_proof.specs.declared.derivation.Line.{Line}
-use Rattle.conflict_proof.specs.declared.derivation.Derivation.{Derivation}
-use Rattle.conflict_proof.specs.Text.{literal_text, clause_text, numbers_text, axiom_numbers, how_text, line_text, end_text, text_lines}
-use Rattle.conflict_proof.specs.Values.{IsHow, IsLine, IsDerivation}
-use Rattle.conflict_proof.specs.Fault.{line_feeds}
+use Rattle.conflict_proof.specs.Text.{literal_text, clause_text, numbers_text, axiom_numbers, how_text, line_text, end_text}
+use Rattle.conflict_proof.specs.Values.{IsHow, IsLine}
+use Rattle.line_texts.specs.Lines.{line_feeds}
 use Rattle.conflict_proof.proofs.Digits.{both, decimal_digits}
 use Rattle.conflict_proof.proofs.LineLemmas.{three, small_three, small_axiom}
-use Rattle.conflict_proof.proofs.TextLemmas.{AreLone, feeds-append}
+use Rattle.line_texts.proofs.LineFeeds.{feeds-append}
 
 digit_no_feed : (c : ℕ) (t : Bool) → (c == 10) ≡ t → is_ascii_digit c ≡ true → (c == 10) ≡ false
 digit_no_feed c true e digit =
@@ -63,14 +62,3 @@ line_lone l is =
 
 pub end_lone : (n : ℕ) → n < 2 ^ 64 → line_feeds (end_text n) ≡ 0
 end_lone n small = decimal_lone n small
-
-lone_lines : (ls : List Line) (ws : List (List ℕ)) → All IsLine ls → AreLone ws → AreLone (map line_text ls ++ ws)
-lone_lines [] ws each lone = lone
-lone_lines (l ∷ ls) ws each lone = (line_lone l (each 0 l (omega arith)), lone_lines ls ws (λ j d h. each (suc j) d (omega arith)) lone)
-
--- the header, lines, and what else has no line feed in it
-pub lone_front : (ls : List Line) (ws : List (List ℕ)) → All IsLine ls → AreLone ws → AreLone (codes "clouseau derivation 1" ∷ map line_text ls ++ ws)
-lone_front ls ws each lone = (refl, lone_lines ls ws each lone)
-
-pub lone_text : (d : Derivation) → IsDerivation d → AreLone (text_lines d)
-lone_text d is = lone_front d.lines (end_text (length d.lines) ∷ []) is.each (end_lone (length d.lines) is.count, tt)

@@ -3,7 +3,7 @@ pub mod Digits
 pub mod ClauseLemmas
 pub mod NumberLemmas
 pub mod LineLemmas
-pub mod TextLemmas
 pub mod FeedLemmas
+pub mod DerivationTexts
 pub mod ReadLemmas
 pub mod PrintLemmas

@@ -5,10 +5,11 @@ use Rattle.std.proofs.lemmas.List.Elements.{All-more}
 use Rattle.std.specs.List.{All}
 use Rattle.zo_core.specs.Literals.{Literal}
 use Rattle.conflict_proof.specs.declared.derivation.Line.{Line}
-use Rattle.conflict_proof.specs.Text.{literal_text, clause_text, line_text, with_line_feeds}
+use Rattle.line_texts.specs.Lines.{with_line_feeds}
+use Rattle.conflict_proof.specs.Text.{literal_text, clause_text, line_text}
 use Rattle.conflict_proof.specs.Values.{IsLine}
 use Rattle.conflict_proof.proofs.ClauseLemmas.{clause_push}
-use Rattle.conflict_proof.proofs.ReadLemmas.{feeds_join}
+use Rattle.line_texts.proofs.LineFeeds.{feeds_join}
 
 pub taken : {X : Type 0} (xs : List X) (i : ℕ) (x : X) → i < length xs → x ≡ get_or xs i x → take (i + 1) xs ≡ take i xs ++ x ∷ []
 taken xs i x low is = take_more xs i x low ∙ ap (λ y. take i xs ++ y ∷ []) (sym is)

@@ -1,21 +1,24 @@
 -- What reading line by line says of all the bytes.
-use Rattle.std.proofs.Common.{◌≡◌, ℕ, suc, ◌+◌, ◌<◌, ◌≤◌, ◌^◌, List, [], ◌∷◌, ◌++◌, length, map, refl, sym, ap, subst, ◌∙◌, get_or, append_assoc, codes, decimal, Bor, Option, Some, None, MatchOption, arith}
+use Rattle.std.proofs.Common.{◌≡◌, ℕ, ◌+◌, ◌<◌, ◌^◌, ◌==◌, if◌then◌else◌, Bool, true, false, ◌⊎◌, inl, inr, List, [], ◌∷◌, ◌++◌, length, map, refl, sym, ap, subst, ◌∙◌, append_assoc, codes, decimal, Bor, Option, Some, None, MatchOption, arith}
+use Rattle.std.proofs.lemmas.Bool.{cases_lt, eqb-true, eq-eqb}
 use Rattle.std.proofs.lemmas.List.{length-map, map_push, append-nil, append_cancel_left}
 use Rattle.std.specs.List.{All}
-use Rattle.conflict_proof.specs.declared.derivation.How.TheVariants.{Axiom, Resolve, Inst}
-use Rattle.conflict_proof.specs.declared.derivation.How.{How}
+use Rattle.line_texts.specs.Lines.{with_line_feeds, line_feeds, IsCut, IsFirstBadLineOf}
+use Rattle.line_texts.specs.Texts.{bytes_of, Wrong}
+use Rattle.line_texts.specs.Texts as of_kind
+use Rattle.line_texts.proofs.LineFeeds.{cut, feeds_join}
+use Rattle.line_texts.proofs.Reading.{Gone, gone_start, gone_more, no_line, bad_no_text, only, bad_as}
+use Rattle.line_texts.proofs.Reading as general
 use Rattle.conflict_proof.specs.declared.faults.TextError.{TextError}
 use Rattle.conflict_proof.specs.declared.faults.TextError.TheVariants as error
 use Rattle.conflict_proof.specs.declared.derivation.Line.{Line}
 use Rattle.conflict_proof.specs.declared.derivation.Derivation.{Derivation}
-use Rattle.conflict_proof.specs.Text.{how_text, clause_text, line_text, end_text, text_lines, with_line_feeds, derivation_text}
+use Rattle.conflict_proof.specs.Text.{line_text, end_text, derivation_text}
 use Rattle.conflict_proof.specs.Values.{IsLine, IsDerivation}
-use Rattle.conflict_proof.specs.Fault.{line_feeds, first_lines, BeginsText, IsNoText, IsFirstBadLine, IsFormAt, Refuses}
+use Rattle.conflict_proof.specs.Fault.{BeginsText, IsNoText, IsFirstBadLine, IsFormAt, Refuses}
 use Rattle.conflict_proof.specs.Fronts.{BeginsNot, NoLine, IsLineFront, AreLines, NoEnd}
-use Rattle.conflict_proof.proofs.Digits.{different}
-use Rattle.conflict_proof.proofs.LineLemmas.{same_line}
-use Rattle.conflict_proof.proofs.TextLemmas.{AreLone, same_cut, cut, first_line, first_of_lines, feeds-append, feeds_of_lines, fewer_lines, peel}
-use Rattle.conflict_proof.proofs.FeedLemmas.{line_lone, end_lone, lone_front, lone_text}
+use Rattle.conflict_proof.proofs.FeedLemmas.{end_lone}
+use Rattle.conflict_proof.proofs.DerivationTexts.{Header, Of, End, Start, At, Done, said_text, next, all_said, derivations, readable, lines_are, walk_at}
 
 abbrev pub header : List ℕ
 header = codes "clouseau derivation 1"
@@ -26,81 +29,6 @@ begun ls = with_line_feeds (header ∷ map line_text ls)
 
 abbrev pub derivation_at : List Line → Derivation
 derivation_at ls = record { lines = ls }
-
--- no line's text is an end
-how_first : (g : ℕ) (h : How) (more w : List ℕ) → how_text g h ++ more ≡ 101 ∷ w → ⊥
-how_first g (Axiom n) more w e = different 97 101 refl (ap (λ (v : List ℕ). get_or v 0 0) e)
-how_first g (Resolve a b) more w e = different 114 101 refl (ap (λ (v : List ℕ). get_or v 0 0) e)
-how_first g (Inst a b) more w e = different 105 101 refl (ap (λ (v : List ℕ). get_or v 0 0) e)
-
-no_end_line : (l : Line) (n : ℕ) → line_text l ≡ end_text n → ⊥
-no_end_line l n e =
-    how_first l.group l.how (codes " :" ++ clause_text l.lits) (codes "nd " ++ decimal n)
-    (sym (append_assoc (how_text l.group l.how) (codes " :") (clause_text l.lits)) ∙ e)
-
--- how the lines of a text go on after those that were read
-data Match (ms ls : List Line) (end : List ℕ) (xs : List (List ℕ)) : Type 0 where
-  ended : ms ≡ ls → xs ≡ end ∷ [] → Match ms ls end xs
-  goes_on : (m : Line) (ys : List (List ℕ)) → IsLine m → xs ≡ line_text m ∷ ys → Match ms ls end xs
-
-pub heads : (u v : List ℕ) (us vs : List (List ℕ)) → u ∷ us ≡ v ∷ vs → (u ≡ v) × (us ≡ vs)
-heads u v us vs e = (ap (λ w. first w u) e, ap rest e)
-  where
-    first : List (List ℕ) → List ℕ → List ℕ
-    first [] d = d
-    first (x ∷ xs) d = x
-
-    rest : List (List ℕ) → List (List ℕ)
-    rest [] = []
-    rest (x ∷ xs) = xs
-
-match_more : (l m : Line) (ms ls : List Line) (end : List ℕ) (xs : List (List ℕ)) → l ≡ m → Match ms ls end xs → Match (m ∷ ms) (l ∷ ls) end xs
-match_more l m ms ls end xs e (ended same is) = ended (ap (λ k. k ∷ ms) (sym e) ∙ ap (λ k. l ∷ k) same) is
-match_more l m ms ls end xs e (goes_on n ys is text) = goes_on n ys is text
-
-match_lines : (ms ls : List Line) (n : ℕ) (xs : List (List ℕ)) → All IsLine ms → All IsLine ls → map line_text ms ++ end_text n ∷ [] ≡ map line_text ls ++ xs → Match ms ls (end_text n) xs
-match_lines [] [] n xs im il e = ended refl (sym e)
-match_lines (m ∷ ms) [] n xs im il e = goes_on m (map line_text ms ++ end_text n ∷ []) (im 0 m (omega arith)) (sym e)
-match_lines [] (l ∷ ls) n xs im il e = absurd (no_end_line l n (sym (heads (end_text n) (line_text l) [] (map line_text ls ++ xs) e).0))
-match_lines (m ∷ ms) (l ∷ ls) n xs im il e =
-    let h = heads (line_text m) (line_text l) (map line_text ms ++ end_text n ∷ []) (map line_text ls ++ xs) e in
-    match_more l m ms ls (end_text n) xs (sym (same_line m l (im 0 m (omega arith)) (il 0 l (omega arith)) h.0))
-    (match_lines ms ls n xs (λ j d i. im (suc j) d (omega arith)) (λ j d i. il (suc j) d (omega arith)) h.1)
-
--- a text that goes on from whole lines to bytes that begin with no line ends there
-pub record Ends (d : Derivation) (ls : List Line) (rest : List ℕ) : Type 0 where
-  pub lines : d.lines ≡ ls
-  pub text : rest ≡ end_text (length ls) ++ 10 ∷ []
-
-ends_by : (d : Derivation) (ls : List Line) (rest : List ℕ) (xs : List (List ℕ)) → with_line_feeds xs ≡ rest → NoLine rest → Match d.lines ls (end_text (length d.lines)) xs → Ends d ls rest
-ends_by d ls rest xs e none (ended same is) = record {
-  lines = same;
-  text = sym e ∙ ap with_line_feeds is ∙ append-nil (end_text (length d.lines) ++ 10 ∷ []) ∙ ap (λ k. end_text (length k) ++ 10 ∷ []) same;
-}
-ends_by d ls rest xs e none (goes_on m ys is text) =
-    absurd (none m (with_line_feeds ys) is (sym e ∙ ap with_line_feeds text ∙ append_assoc (line_text m) (10 ∷ []) (with_line_feeds ys)))
-
-pub text_ends : (d : Derivation) (ls : List Line) (rest : List ℕ) → IsDerivation d → All IsLine ls → derivation_text d ≡ begun ls ++ rest → NoLine rest → Ends d ls rest
-text_ends d ls rest is each e none =
-    let lone = subst AreLone (ap (λ w. header ∷ w) (append-nil (map line_text ls))) (lone_front ls [] each tt) in
-    let p = peel (text_lines d) (header ∷ map line_text ls) rest (lone_text d is) lone e in
-    let h = heads header header (map line_text d.lines ++ end_text (length d.lines) ∷ []) (map line_text ls ++ p.others) p.joined in
-    ends_by d ls rest p.others p.text none (match_lines d.lines ls (length d.lines) p.others is.each each h.1)
-
--- bytes that begin with a line begin with it however they go on after its line feed
-no_line_cut : (w more other : List ℕ) → line_feeds w ≡ 0 → NoLine (w ++ 10 ∷ more) → NoLine (w ++ 10 ∷ other)
-no_line_cut w more other lone none l rest is e =
-    none l more is (ap (λ (v : List ℕ). v ++ 10 ∷ more) (same_cut w (line_text l) other rest lone (line_lone l is) e).0)
-
--- an end is no line
-end_no_line : (n : ℕ) (more : List ℕ) → n < 2 ^ 64 → NoLine (end_text n ++ 10 ∷ more)
-end_no_line n more small l rest is e = no_end_line l n (sym (same_cut (end_text n) (line_text l) more rest (end_lone n small) (line_lone l is) e).0)
-
--- whole lines, one after the other
-pub feeds_join : (us vs : List (List ℕ)) → with_line_feeds (us ++ vs) ≡ with_line_feeds us ++ with_line_feeds vs
-feeds_join [] vs = refl
-feeds_join (u ∷ us) vs =
-    ap (λ (w : List ℕ). (u ++ 10 ∷ []) ++ w) (feeds_join us vs) ∙ sym (append_assoc (u ++ 10 ∷ []) (with_line_feeds us) (with_line_feeds vs))
 
 pub whole_text : (ls : List Line) → derivation_text (derivation_at ls) ≡ begun ls ++ (end_text (length ls) ++ 10 ∷ [])
 whole_text ls =
@@ -125,157 +53,139 @@ begun_of bs body rest ls e are count = record {
 abbrev pub derivation_is : (ls : List Line) → All IsLine ls → length ls < 2 ^ 64 → IsDerivation (derivation_at ls)
 derivation_is ls each count = record { count = count; each = each }
 
-lone_begun : (ls : List Line) → All IsLine ls → AreLone (header ∷ map line_text ls)
-lone_begun ls each = subst AreLone (ap (λ w. header ∷ w) (append-nil (map line_text ls))) (lone_front ls [] each tt)
+-- the same in the words of texts that are read line by line
 
-long_begun : (ls : List Line) → length (header ∷ map line_text ls) ≡ length ls + 1
-long_begun ls = let h = length-map ls line_text in omega arith
+said_lines : (ls : List Line) → map said_text (map Of ls) ≡ map line_text ls
+said_lines [] = refl
+said_lines (l ∷ ls) = ap (λ w. line_text l ∷ w) (said_lines ls)
 
-first_lines_of : (bs : List ℕ) (ls : List Line) (rest : List ℕ) (n m : ℕ) → Begun bs ls rest → m ≡ (length ls + 1) + n → first_lines m bs ≡ begun ls ++ first_lines n rest
-first_lines_of bs ls rest n m b e =
-    let k : m ≡ length (header ∷ map line_text ls) + n = let h = long_begun ls in omega arith in
-    ap (λ j. first_lines j bs) k
-    ∙ ap (first_lines (length (header ∷ map line_text ls) + n)) b.text
-    ∙ first_of_lines (header ∷ map line_text ls) rest n (lone_begun ls b.each)
+said_all : (ls : List Line) (n : ℕ) → map said_text (map Of ls ++ End n ∷ []) ≡ map line_text ls ++ end_text n ∷ []
+said_all [] n = refl
+said_all (l ∷ ls) n = ap (λ w. line_text l ∷ w) (said_all ls n)
 
-feeds_of : (bs : List ℕ) (ls : List Line) (rest : List ℕ) → Begun bs ls rest → line_feeds bs ≡ (length ls + 1) + line_feeds rest
-feeds_of bs ls rest b =
-    let h = long_begun ls in
-    let f = feeds_of_lines (header ∷ map line_text ls) rest (lone_begun ls b.each) in
-    ap line_feeds b.text ∙ omega (arith, f, h)
+text_is : (d : Derivation) → bytes_of derivations (all_said d.lines) ≡ derivation_text d
+text_is d = ap (λ w. with_line_feeds (header ∷ w)) (said_all d.lines (length d.lines))
 
-begins_front : (a b : List ℕ) → BeginsText (a ++ b) → BeginsText a
-begins_front a b begins = (begins.0, begins.1, b ++ begins.2, begins.3 ∙ append_assoc a b begins.2)
+from_text : (d : Derivation) (bs : List ℕ) → bs ≡ derivation_text d → of_kind.IsTextOf derivations d bs
+from_text d bs e = (all_said d.lines, refl, e ∙ sym (text_is d))
 
--- fewer lines begin a text too
-before_all : (bs : List ℕ) (n m : ℕ) → BeginsText (first_lines n bs) → m ≡ n + 1 → (k : ℕ) → k < m → BeginsText (first_lines k bs)
-before_all bs n m begins e k low =
-    let f = fewer_lines k n bs (omega arith) in
-    begins_front (first_lines k bs) f.more (subst BeginsText f.is begins)
+to_text : (d : Derivation) (bs : List ℕ) → of_kind.IsTextOf derivations d bs → bs ≡ derivation_text d
+to_text d bs text = text.2 ∙ ap (bytes_of derivations) text.1 ∙ text_is d
 
-begins_begun : (ls : List Line) → All IsLine ls → length ls < 2 ^ 64 → BeginsText (begun ls)
-begins_begun ls each count = (derivation_at ls, derivation_is ls each count, end_text (length ls) ++ 10 ∷ [], whole_text ls)
+none_of : (bs : List ℕ) → of_kind.IsNoText derivations bs → IsNoText bs
+none_of bs none d is e = none d is (from_text d bs e)
+
+bad_of : (bs : List ℕ) (n : ℕ) → IsFirstBadLineOf (of_kind.BeginsText derivations) bs n → IsFirstBadLine bs n
+bad_of bs n bad =
+    bad_as (of_kind.BeginsText derivations) BeginsText bs n
+    (λ cs begins. (begins.0, begins.1, begins.2, sym (to_text begins.0 (cs ++ begins.2) begins.3)))
+    (λ cs begins. (begins.0, begins.1, begins.2, from_text begins.0 (cs ++ begins.2) (sym begins.3))) bad
+
+gone_of : (bs : List ℕ) (ls : List Line) (rest : List ℕ) → Begun bs ls rest → Gone derivations bs rest (At ls) (length ls + 2)
+gone_of bs ls rest b = record {
+  lines = Header ∷ map Of ls;
+  text = b.text ∙ ap (λ w. with_line_feeds (header ∷ w) ++ rest) (sym (said_lines ls));
+  each = lines_are ls b.each;
+  led = walk_at ls;
+  count = omega (arith, length-map ls Of);
+}
+
+-- the first line of bytes, where there is one
+cases_cut : (bs : List ℕ) → ((line : List ℕ) × (rest : List ℕ) × IsCut bs line rest) ⊎ (line_feeds bs ≡ 0)
+cases_cut bs =
+    elim (cases_lt 0 (line_feeds bs)) [
+      | inl some ↦ let c = cut bs some in inl (c.line, c.rest, record { text = c.is; lone = c.lone })
+      | inr none ↦ inr (omega arith)
+    ]
 
 -- the header is missing
-header_cut : (bs line rest more : List ℕ) (d : Derivation) → bs ≡ line ++ 10 ∷ rest → line_feeds line ≡ 0 → BeginsNot (codes "clouseau derivation 1\n") bs → derivation_text d ≡ (line ++ 10 ∷ []) ++ more → ⊥
-header_cut bs line rest more d cut lone none e =
-    let tail = with_line_feeds (map line_text d.lines ++ end_text (length d.lines) ∷ []) in
-    let s = same_cut header line tail more refl lone (e ∙ append_assoc line (10 ∷ []) more) in
-    none rest (cut ∙ ap (λ (w : List ℕ). w ++ 10 ∷ rest) (sym s.0))
-
-header_here : (bs : List ℕ) → BeginsNot (codes "clouseau derivation 1\n") bs → 1 ≤ line_feeds bs → BeginsText (first_lines 1 bs) → ⊥
-header_here bs none some begins =
-    let c = cut bs (omega arith) in
-    let first : first_lines 1 bs ≡ c.line ++ 10 ∷ [] = ap (first_lines 1) c.is ∙ first_line c.line c.rest 0 c.lone in
-    header_cut bs c.line c.rest begins.2 begins.0 c.is c.lone none (begins.3 ∙ ap (λ (w : List ℕ). w ++ begins.2) first)
+wrong_start : (bs w after : List ℕ) → BeginsNot (codes "clouseau derivation 1\n") bs → IsCut bs w after → Wrong derivations Start w
+wrong_start bs w after none cut Header is e = absurd (none after (cut.text ∙ ap (λ (v : List ℕ). v ++ 10 ∷ after) e))
+wrong_start bs w after none cut (Of l) is e = refl
+wrong_start bs w after none cut (End n) is e = refl
 
 pub no_header : (bs : List ℕ) → BeginsNot (codes "clouseau derivation 1\n") bs → IsNoText bs
 no_header bs none d is e = none (with_line_feeds (map line_text d.lines ++ end_text (length d.lines) ∷ [])) e
 
-begins_nothing : BeginsText []
-begins_nothing = (derivation_at [], derivation_is [] (λ k d h. absurd (omega arith)) (omega arith), derivation_text (derivation_at []), refl)
-
 pub bad_header : (bs : List ℕ) → BeginsNot (codes "clouseau derivation 1\n") bs → IsFirstBadLine bs 1
-bad_header bs none = record {
-  before = before_all bs 0 1 begins_nothing refl;
-  here = header_here bs none;
-  within = omega arith;
-}
+bad_header bs none =
+    bad_of bs 1
+    (elim (cases_cut bs) [
+      | inl c ↦ general.bad_line derivations readable bs bs c.0 c.1 Start 1 (gone_start derivations bs) (omega arith) c.2 (wrong_start bs c.0 c.1 none c.2)
+      | inr lone ↦ no_line derivations readable bs bs Start 1 (gone_start derivations bs) (omega arith) lone
+    ])
 
 -- neither a line nor the end is there
-pub no_end : (bs : List ℕ) (ls : List Line) (rest : List ℕ) → Begun bs ls rest → NoEnd (length ls) rest → IsNoText bs
-no_end bs ls rest b none d is e = none [] (text_ends d ls rest is b.each (sym e ∙ b.text) b.ends).text
-
-bad_cut : (ls : List Line) (rest line after more : List ℕ) (d : Derivation) → All IsLine ls → length ls < 2 ^ 64 → NoLine rest → NoEnd (length ls) rest → IsDerivation d
-    → rest ≡ line ++ 10 ∷ after → line_feeds line ≡ 0 → derivation_text d ≡ (begun ls ++ (line ++ 10 ∷ [])) ++ more → ⊥
-bad_cut ls rest line after more d each count none no_end is cut lone e =
-    let f : derivation_text d ≡ begun ls ++ (line ++ 10 ∷ more) =
-    e ∙ append_assoc (begun ls) (line ++ 10 ∷ []) more ∙ ap (λ (w : List ℕ). begun ls ++ w) (append_assoc line (10 ∷ []) more) in
-    let t = text_ends d ls (line ++ 10 ∷ more) is each f (no_line_cut line after more lone (subst NoLine cut none)) in
-    let s = same_cut line (end_text (length ls)) more [] lone (end_lone (length ls) count) t.text in
-    no_end after (cut ∙ ap (λ (w : List ℕ). w ++ 10 ∷ after) s.0)
-
-bad_here : (bs : List ℕ) (ls : List Line) (rest : List ℕ) → Begun bs ls rest → NoEnd (length ls) rest → length ls + 2 ≤ line_feeds bs → BeginsText (first_lines (length ls + 2) bs) → ⊥
-bad_here bs ls rest b none some begins =
-    let feeds = feeds_of bs ls rest b in
-    let c = cut rest (omega arith) in
-    let first : first_lines 1 rest ≡ c.line ++ 10 ∷ [] = ap (first_lines 1) c.is ∙ first_line c.line c.rest 0 c.lone in
-    let front : first_lines (length ls + 2) bs ≡ begun ls ++ (c.line ++ 10 ∷ []) = first_lines_of bs ls rest 1 (length ls + 2) b (omega arith) ∙ ap (λ (w : List ℕ). begun ls ++ w) first in
-    bad_cut ls rest c.line c.rest begins.2 begins.0 b.each b.count b.ends none begins.1 c.is c.lone (begins.3 ∙ ap (λ (w : List ℕ). w ++ begins.2) front)
-
-pub bad_line : (bs : List ℕ) (ls : List Line) (rest : List ℕ) → Begun bs ls rest → NoEnd (length ls) rest → IsFirstBadLine bs (length ls + 2)
-bad_line bs ls rest b none =
-    let front : first_lines (length ls + 1) bs ≡ begun ls = first_lines_of bs ls rest 0 (length ls + 1) b (omega arith) ∙ append-nil (begun ls) in
-    record {
-      before = before_all bs (length ls + 1) (length ls + 2) (subst BeginsText (sym front) (begins_begun ls b.each b.count)) (omega arith);
-      here = bad_here bs ls rest b none;
-      within = let feeds = feeds_of bs ls rest b in omega arith;
-    }
-
--- something follows the end
-not_empty : (line more : List ℕ) → (line ++ 10 ∷ []) ++ more ≡ [] → ⊥
-not_empty [] more e = let f : suc (length more) ≡ 0 = ap length e in omega arith
-not_empty (b ∷ line) more e = let f : suc (length ((line ++ 10 ∷ []) ++ more)) ≡ 0 = ap length e in omega arith
-
-rest_of_end : (n : ℕ) (x : List ℕ) → end_text n ++ 10 ∷ x ≡ end_text n ++ 10 ∷ [] → x ≡ []
-rest_of_end n x e = ap (λ (w : List ℕ). tail w) (append_cancel_left (end_text n) (10 ∷ x) (10 ∷ []) e)
+wrong_at : (ls : List Line) (rest w after : List ℕ) → NoLine rest → NoEnd (length ls) rest → IsCut rest w after → Wrong derivations (At ls) w
+wrong_at ls rest w after none no_end cut Header is e = refl
+wrong_at ls rest w after none no_end cut (Of l) is e = absurd (none l after is (cut.text ∙ ap (λ (v : List ℕ). v ++ 10 ∷ after) e))
+wrong_at ls rest w after none no_end cut (End n) is e = by_test (n == length ls) refl
   where
-    tail : List ℕ → List ℕ
-    tail [] = []
-    tail (b ∷ w) = w
+    by_test : (b : Bool) → (n == length ls) ≡ b → next (At ls) (End n) ≡ None
+    by_test true f =
+        absurd (no_end after (cut.text ∙ ap (λ (v : List ℕ). v ++ 10 ∷ after) e ∙ ap (λ k. end_text k ++ 10 ∷ after) (eqb-true n (length ls) f)))
+    by_test false f = ap (λ b. if b then Some (Done ls) else None) f
+
+pub no_end : (bs : List ℕ) (ls : List Line) (rest : List ℕ) → Begun bs ls rest → NoEnd (length ls) rest → IsNoText bs
+no_end bs ls rest b none =
+    let gone = gone_of bs ls rest b in
+    none_of bs
+    (elim (cases_cut rest) [
+      | inl c ↦ bad_no_text derivations readable bs rest c.0 c.1 (At ls) (length ls + 2) gone c.2 (wrong_at ls rest c.0 c.1 b.ends none c.2)
+      | inr lone ↦ general.no_end derivations readable bs rest (At ls) (length ls + 2) gone lone (λ d same. cc)
+    ])
+
+pub bad_line : (bs : List ℕ) (ls : List Line) (rest : List ℕ) → length ls + 3 < 2 ^ 64 → Begun bs ls rest → NoEnd (length ls) rest → IsFirstBadLine bs (length ls + 2)
+bad_line bs ls rest small b none =
+    let gone = gone_of bs ls rest b in
+    bad_of bs (length ls + 2)
+    (elim (cases_cut rest) [
+      | inl c ↦ general.bad_line derivations readable bs rest c.0 c.1 (At ls) (length ls + 2) gone (omega arith) c.2 (wrong_at ls rest c.0 c.1 b.ends none c.2)
+      | inr lone ↦ no_line derivations readable bs rest (At ls) (length ls + 2) gone (omega arith) lone
+    ])
+
+-- the end is there
+gone_done : (bs : List ℕ) (ls : List Line) (rest more : List ℕ) → Begun bs ls rest → rest ≡ end_text (length ls) ++ 10 ∷ more → Gone derivations bs more (Done ls) (length ls + 3)
+gone_done bs ls rest more b ends =
+    let end : next (At ls) (End (length ls)) ≡ Some (Done ls) = ap (λ b. if b then Some (Done ls) else None) (eq-eqb (length ls) (length ls) refl) in
+    let next_one : length ls + 2 + 1 ≡ length ls + 3 = omega arith in
+    subst (Gone derivations bs more (Done ls)) next_one
+    (gone_more derivations bs rest (end_text (length ls)) more (At ls) (Done ls) (length ls + 2) (gone_of bs ls rest b)
+    (record { text = ends; lone = end_lone (length ls) b.count }) (record { line = End (length ls); is = b.count; text = refl; next = end }))
+
+-- and something follows it
+wrong_done : (ls : List Line) (w : List ℕ) → Wrong derivations (Done ls) w
+wrong_done ls w Header is e = refl
+wrong_done ls w (Of l) is e = refl
+wrong_done ls w (End n) is e = refl
 
 pub no_more : (bs : List ℕ) (ls : List Line) (rest more : List ℕ) → Begun bs ls rest → rest ≡ end_text (length ls) ++ 10 ∷ more → 0 < length more → IsNoText bs
-no_more bs ls rest more b ends some d is e =
-    let t = text_ends d ls rest is b.each (sym e ∙ b.text) b.ends in
-    let nil : more ≡ [] = rest_of_end (length ls) more (sym ends ∙ t.text) in
-    let l : length more ≡ 0 = ap length nil in
-    omega arith
+no_more bs ls rest more b ends some =
+    let gone = gone_done bs ls rest more b ends in
+    none_of bs
+    (elim (cases_cut more) [
+      | inl c ↦ bad_no_text derivations readable bs more c.0 c.1 (Done ls) (length ls + 3) gone c.2 (wrong_done ls c.0)
+      | inr lone ↦ general.no_more derivations readable bs more (Done ls) (length ls + 3) gone lone some
+    ])
 
-more_cut : (ls : List Line) (line more : List ℕ) (d : Derivation) → All IsLine ls → length ls < 2 ^ 64 → IsDerivation d
-    → derivation_text d ≡ (begun ls ++ (end_text (length ls) ++ 10 ∷ (line ++ 10 ∷ []))) ++ more → ⊥
-more_cut ls line more d each count is e =
-    let end = end_text (length ls) in
-    let f : derivation_text d ≡ begun ls ++ (end ++ 10 ∷ ((line ++ 10 ∷ []) ++ more)) =
-    e ∙ append_assoc (begun ls) (end ++ 10 ∷ (line ++ 10 ∷ [])) more ∙ ap (λ (w : List ℕ). begun ls ++ w) (append_assoc end (10 ∷ (line ++ 10 ∷ [])) more) in
-    let t = text_ends d ls (end ++ 10 ∷ ((line ++ 10 ∷ []) ++ more)) is each f (end_no_line (length ls) ((line ++ 10 ∷ []) ++ more) count) in
-    not_empty line more (rest_of_end (length ls) ((line ++ 10 ∷ []) ++ more) t.text)
+pub bad_more : (bs : List ℕ) (ls : List Line) (rest more : List ℕ) → length ls + 3 < 2 ^ 64 → Begun bs ls rest → rest ≡ end_text (length ls) ++ 10 ∷ more → IsFirstBadLine bs (length ls + 3)
+bad_more bs ls rest more small b ends =
+    let gone = gone_done bs ls rest more b ends in
+    bad_of bs (length ls + 3)
+    (elim (cases_cut more) [
+      | inl c ↦ general.bad_line derivations readable bs more c.0 c.1 (Done ls) (length ls + 3) gone small c.2 (wrong_done ls c.0)
+      | inr lone ↦ no_line derivations readable bs more (Done ls) (length ls + 3) gone small lone
+    ])
 
-first_two : (n : ℕ) (rest more : List ℕ) (k : ℕ) → n < 2 ^ 64 → rest ≡ end_text n ++ 10 ∷ more → first_lines (suc k) rest ≡ end_text n ++ 10 ∷ first_lines k more
-first_two n rest more k small e = ap (first_lines (suc k)) e ∙ first_line (end_text n) more k (end_lone n small)
-
-more_here : (bs : List ℕ) (ls : List Line) (rest more : List ℕ) → Begun bs ls rest → rest ≡ end_text (length ls) ++ 10 ∷ more → length ls + 3 ≤ line_feeds bs → BeginsText (first_lines (length ls + 3) bs) → ⊥
-more_here bs ls rest more b ends some begins =
-    let end = end_text (length ls) in
-    let feeds = feeds_of bs ls rest b in
-    let rest_feeds : line_feeds rest ≡ 1 + line_feeds more = ap line_feeds ends ∙ feeds-append end (10 ∷ more) ∙ (let l = end_lone (length ls) b.count in omega arith) in
-    let c = cut more (omega arith) in
-    let first : first_lines 1 more ≡ c.line ++ 10 ∷ [] = ap (first_lines 1) c.is ∙ first_line c.line c.rest 0 c.lone in
-    let two : first_lines 2 rest ≡ end ++ 10 ∷ (c.line ++ 10 ∷ []) = first_two (length ls) rest more 1 b.count ends ∙ ap (λ (w : List ℕ). end ++ 10 ∷ w) first in
-    let front : first_lines (length ls + 3) bs ≡ begun ls ++ (end ++ 10 ∷ (c.line ++ 10 ∷ [])) = first_lines_of bs ls rest 2 (length ls + 3) b (omega arith) ∙ ap (λ (w : List ℕ). begun ls ++ w) two in
-    more_cut ls c.line begins.2 begins.0 b.each b.count begins.1 (begins.3 ∙ ap (λ (w : List ℕ). w ++ begins.2) front)
-
-pub bad_more : (bs : List ℕ) (ls : List Line) (rest more : List ℕ) → Begun bs ls rest → rest ≡ end_text (length ls) ++ 10 ∷ more → IsFirstBadLine bs (length ls + 3)
-bad_more bs ls rest more b ends =
-    let front : first_lines (length ls + 2) bs ≡ begun ls ++ (end_text (length ls) ++ 10 ∷ []) =
-    first_lines_of bs ls rest 1 (length ls + 2) b (omega arith) ∙ ap (λ (w : List ℕ). begun ls ++ w) (first_two (length ls) rest more 0 b.count ends) in
-    let whole : BeginsText (begun ls ++ (end_text (length ls) ++ 10 ∷ [])) =
-    (derivation_at ls, derivation_is ls b.each b.count, [], whole_text ls ∙ sym (append-nil (begun ls ++ (end_text (length ls) ++ 10 ∷ [])))) in
-    record {
-      before = before_all bs (length ls + 2) (length ls + 3) (subst BeginsText (sym front) whole) (omega arith);
-      here = more_here bs ls rest more b ends;
-      within =
-          let feeds = feeds_of bs ls rest b in
-          let rest_feeds : line_feeds rest ≡ 1 + line_feeds more = ap line_feeds ends ∙ feeds-append (end_text (length ls)) (10 ∷ more) ∙ (let l = end_lone (length ls) b.count in omega arith) in
-          omega arith;
-    }
-
--- the end is there, and nothing follows
+-- or nothing does
 pub found_text : (bs : List ℕ) (ls : List Line) (rest more : List ℕ) → Begun bs ls rest → rest ≡ end_text (length ls) ++ 10 ∷ more → length more ≡ 0 → bs ≡ derivation_text (derivation_at ls)
 found_text bs ls rest [] b ends none = b.text ∙ ap (λ (w : List ℕ). begun ls ++ w) ends ∙ sym (whole_text ls)
 found_text bs ls rest (c ∷ more) b ends none = absurd (omega arith)
 
-pub only_text : (bs : List ℕ) (ls : List Line) (rest : List ℕ) → Begun bs ls rest → (e : Derivation) → IsDerivation e → bs ≡ derivation_text e → e ≡ derivation_at ls
-only_text bs ls rest b e is f = ap derivation_at (text_ends e ls rest is b.each (sym f ∙ b.text) b.ends).lines
+pub only_text : (bs : List ℕ) (ls : List Line) (rest more : List ℕ) → Begun bs ls rest → rest ≡ end_text (length ls) ++ 10 ∷ more → length more ≡ 0
+    → (e : Derivation) → IsDerivation e → bs ≡ derivation_text e → e ≡ derivation_at ls
+only_text bs ls rest [] b ends none e is f = only derivations readable bs (derivation_at ls) (length ls + 3) (gone_done bs ls rest [] b ends) e is (from_text e bs f)
+only_text bs ls rest (c ∷ more) b ends none e is f = absurd (omega arith)
 
 -- the end, piece by piece
 pub end_of : (n : ℕ) (bs first second : List ℕ) (o : Option (Bor (List ℕ))) → bs ≡ codes "end " ++ first → first ≡ decimal n ++ second → MatchOption o (BeginsNot (10 ∷ []) second) (λ rest. second ≡ 10 ∷ rest.now)
@@ -299,8 +209,5 @@ refuses_at bs n (error.Invalid fault) at none bad = (at.1, none, subst (IsFirstB
 
 -- different values have different texts
 pub same_text : (d e : Derivation) → IsDerivation d → IsDerivation e → derivation_text d ≡ derivation_text e → d ≡ e
-same_text d e isd ise f =
-    let rest = end_text (length e.lines) ++ 10 ∷ [] in
-    let begun_e : Begun (derivation_text d) e.lines rest =
-    record { text = f ∙ whole_text e.lines; each = ise.each; count = ise.count; ends = end_no_line (length e.lines) [] ise.count } in
-    only_text (derivation_text d) e.lines rest begun_e d isd refl
+same_text d e is_d is_e same =
+    general.same_text derivations readable d e (derivation_text d) is_d is_e (from_text d (derivation_text d) refl) (from_text e (derivation_text d) same)

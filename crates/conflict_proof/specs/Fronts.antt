@@ -6,7 +6,8 @@ use Rattle.zo_core.specs.Literals.{Literal}
 use Rattle.conflict_proof.specs.declared.derivation.How.{How}
 use Rattle.conflict_proof.specs.declared.derivation.Line.{Line}
 use Rattle.conflict_proof.specs.Values.{IsClause, IsHow, IsLine}
-use Rattle.conflict_proof.specs.Text.{literal_text, clause_text, numbers_text, how_text, line_text, end_text, with_line_feeds}
+use Rattle.line_texts.specs.Lines.{with_line_feeds}
+use Rattle.conflict_proof.specs.Text.{literal_text, clause_text, numbers_text, how_text, line_text, end_text}
 
 -- the bytes don't begin with a word
 abbrev pub BeginsNot : List ℕ → List ℕ → Type 0

@@ -2,3 +2,4 @@ pub mod Values
 pub mod Text
 pub mod Fault
 pub mod Fronts
+pub mod Names

@@ -2,6 +2,7 @@
 -- ends with a line feed.
 use Rattle.std.specs.Prelude.{ℕ, if◌then◌else◌, List, [], ◌∷◌, ◌++◌, map, length, codes, decimal}
 use Rattle.std.specs.List.{flat_map}
+use Rattle.line_texts.specs.Lines.{with_line_feeds}
 use Rattle.zo_core.specs.Literals.{Literal}
 use Rattle.conflict_proof.specs.declared.names.ConstraintName.{ConstraintName}
 use Rattle.conflict_proof.specs.declared.derivation.How.{How}
@@ -45,10 +46,6 @@ end_text count = codes "end " ++ decimal count
 -- the lines of the text, without their line feeds
 abbrev pub text_lines : Derivation → List (List ℕ)
 text_lines d = codes "clouseau derivation 1" ∷ map line_text d.lines ++ end_text (length d.lines) ∷ []
-
--- lines with a line feed after each
-abbrev pub with_line_feeds : List (List ℕ) → List ℕ
-with_line_feeds lines = flat_map (λ l. l ++ 10 ∷ []) lines
 
 abbrev pub derivation_text : Derivation → List ℕ
 derivation_text d = with_line_feeds (text_lines d)

@@ -11,7 +11,7 @@
 //!   [`form_at`] is the fault of a line.
 //!
 //! Reading and printing take time and memory in proportion to the text. The crate stands on `zo_core` for
-//! clauses, on `c_tree` for want of memory and on `itoa`.
+//! clauses, on `line_texts` for what texts of lines have in common, on `c_tree` for want of memory and on `itoa`.
 #![tactic(auto)]
 
 mod clauses;

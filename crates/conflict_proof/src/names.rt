@@ -1,8 +1,14 @@
+ghost use Rattle.std.proofs.Common.{rules};
+ghost use Rattle.std.specs.Cmp.{partial_order_from_own_ties};
+ghost use Rattle.std.specs.Cmp.Rules.{comparing};
+ghost use Rattle.std.specs.Ordering.{as_partial_cmp};
+
+use std::cmp::Ordering;
 use std::marker::Model;
 
 /// The name of a constraint of a program. Names are ordered by procedure, place, edge, rule, slot, field and
-/// other, which is the order of the fields.
-#[derive(Clone, Copy, Debug, PartialEq, Eq, PartialOrd, Ord)]
+/// other.
+#[derive(Clone, Copy, Debug, PartialEq, Eq)]
 pub struct ConstraintName {
     /// The procedure's number.
     pub proc: u32,
@@ -18,6 +24,41 @@ pub struct ConstraintName {
     pub field: u32,
     /// The second slot, or the argument's number; for a constraint without one it is 0.
     pub other: u32,
+}
+
+impl Ord for ConstraintName {
+    ghost use Rattle.conflict_proof.specs.Names.{name_order};
+
+    ghost cmp = { name_order };
+
+    ghost total = { Prim.search (comparing, rules) depth 12 };
+
+    ghost matches_partial_cmp = { Prim.search (comparing, rules) depth 12 };
+
+    ghost matches_eq = { Prim.search (comparing, rules) depth 12 };
+
+    fn cmp(&self, other: &ConstraintName) -> Ordering {
+        self.proc
+            .cmp(&other.proc)
+            .then(self.place.cmp(&other.place))
+            .then(self.edge.cmp(&other.edge))
+            .then(self.rule.cmp(&other.rule))
+            .then(self.slot.cmp(&other.slot))
+            .then(self.field.cmp(&other.field))
+            .then(self.other.cmp(&other.other))
+    }
+}
+
+impl PartialOrd for ConstraintName {
+    ghost use Rattle.conflict_proof.specs.Names.{name_order};
+
+    ghost partial_cmp = { as_partial_cmp name_order };
+
+    ghost laws = { partial_order_from_own_ties (Prim.search (comparing, rules) depth 12) (Prim.search (comparing, rules) depth 12) };
+
+    fn partial_cmp(&self, other: &ConstraintName) -> Option<Ordering> {
+        Some(self.cmp(other))
+    }
 }
 
 /// Names of constraints, which contracts see as a list.

@@ -20,24 +20,14 @@ use Rattle.own_cert.specs.Text.{runs_of, place_lines, instance_lines, lines_of, 
 use Rattle.own_cert.specs.Values.{Has}
 use Rattle.own_cert.specs.Runs.{rows_of, goes_on_from, after_last, places_in, room_less, room_after, Apart, last_of}
 use Rattle.own_cert.specs.Drafts.{empty_draft, between, more_places, take_room, after_run, next}
+use Rattle.line_texts.specs.Texts as of_kind
+use Rattle.line_texts.proofs.Reading.{walk-append}
+use Rattle.own_cert.specs.Reading.{certificates}
 use Rattle.own_cert.proofs.RunLemmas.{Ordered, runs_apart, runs_whole, final, last_is, final-append, final_run, length_from, bits_from, row_bits-append}
 
--- from state to state
-abbrev pub step : Option State → Line → Option State
-step None l = None
-step (Some s) l = next s l
-
+-- where lines lead to
 abbrev pub walk : Option State → List Line → Option State
-walk o [] = o
-walk o (l ∷ ls) = walk (step o l) ls
-
-pub walk-append : (o : Option State) (ks ls : List Line) → walk o (ks ++ ls) ≡ walk (walk o ks) ls
-walk-append o [] ls = refl
-walk-append o (k ∷ ks) ls = walk-append (step o k) ks ls
-
-pub walk_none : (ls : List Line) → walk None ls ≡ None
-walk_none [] = refl
-walk_none (l ∷ ls) = walk_none ls
+walk o ls = of_kind.walk certificates o ls
 
 -- drafts and instances by their parts
 abbrev pub draft : Version → List Bool → List Instance → Room → Draft
@@ -170,7 +160,7 @@ walk_instances v phi (i ∷ is) done room s b fits =
     let after = walk_instances v phi is (done ++ i ∷ []) (room_left v room i.places) (at.Placed (draft v phi done (room_left v room i.places)) i)
     (record { entry = λ g e. refl; end = λ n. refl }) (fits_rest v room i is fits) in
     ap (walk (Some s)) (append_assoc (instance_lines v i) rest end)
-    ∙ walk-append (Some s) (instance_lines v i) (rest ++ end)
+    ∙ walk-append certificates (Some s) (instance_lines v i) (rest ++ end)
     ∙ ap (λ o. walk o (rest ++ end)) one
     ∙ ap (λ n. walk (Some (at.Placed (draft v phi done (room_left v room i.places)) i)) (rest ++ line.End n ∷ [])) (sym (ap length all))
     ∙ after

@@ -3,13 +3,13 @@ use Rattle.std.proofs.Common.{◌≡◌, ℕ, zero, suc, ◌<◌, ◌^◌, ◌==
 use Rattle.std.proofs.lemmas.Fmt.{decimal_injective}
 use Rattle.std.specs.List.{All}
 use Rattle.conflict_proof.specs.Text.{numbers_text}
-use Rattle.conflict_proof.specs.Fault.{line_feeds}
+use Rattle.line_texts.specs.Lines.{line_feeds}
 use Rattle.conflict_proof.specs.Fronts.{NoDigit, NoField}
 use Rattle.conflict_proof.proofs.Digits.{same_number, different}
 use Rattle.conflict_proof.proofs.NumberLemmas.{same_numbers, numbers_end}
 use Rattle.conflict_proof.proofs.LineLemmas.{three, small_three}
 use Rattle.conflict_proof.proofs.FeedLemmas.{decimal_lone, numbers_lone}
-use Rattle.conflict_proof.proofs.TextLemmas.{feeds-append}
+use Rattle.line_texts.proofs.LineFeeds.{feeds-append}
 use Rattle.own_cert.specs.declared.certificate.PlaceBits.{PlaceBits}
 use Rattle.own_cert.specs.declared.lines.Version.{Version}
 use Rattle.own_cert.specs.declared.lines.Version.TheVariants.{First, Second}

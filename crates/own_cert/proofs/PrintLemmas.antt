@@ -4,9 +4,10 @@ use Rattle.std.proofs.lemmas.List.{append-nil, map-append, map_push, take-append
 use Rattle.std.proofs.lemmas.List.Elements.{All-push, All-append}
 use Rattle.std.proofs.lemmas.Grind.{flat_map-append}
 use Rattle.std.specs.List.{All, flat_map}
-use Rattle.conflict_proof.specs.Text.{numbers_text, with_line_feeds}
+use Rattle.line_texts.specs.Lines.{with_line_feeds}
+use Rattle.conflict_proof.specs.Text.{numbers_text}
 use Rattle.conflict_proof.proofs.PrintLemmas.{taken}
-use Rattle.conflict_proof.proofs.ReadLemmas.{feeds_join}
+use Rattle.line_texts.proofs.LineFeeds.{feeds_join}
 use Rattle.own_cert.specs.declared.certificate.PlaceBits.{PlaceBits}
 use Rattle.own_cert.specs.declared.certificate.Instance.{Instance}
 use Rattle.own_cert.specs.declared.certificate.Certificate.{Certificate}

@@ -4,7 +4,7 @@ use Rattle.own_cert.specs.declared.certificate.Certificate.{Certificate}
 use Rattle.conflict_proof.specs.declared.faults.Reason.TheVariants.{Form}
 use Rattle.conflict_proof.specs.declared.faults.TextError.{TextError}
 use Rattle.conflict_proof.specs.declared.faults.TextError.TheVariants as error
-use Rattle.conflict_proof.specs.Fault.{IsFirstBadLineOf}
+use Rattle.line_texts.specs.Lines.{IsFirstBadLineOf}
 use Rattle.own_cert.specs.Values.{IsCertificate, IsTextOf}
 
 -- the bytes can be continued to a text

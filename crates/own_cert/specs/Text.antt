@@ -4,7 +4,8 @@ use Rattle.std.specs.Prelude.{ℕ, ◌+◌, Bool, ◌&&◌, ◌==◌, nat_le, if
 use Rattle.std.specs.List.{flat_map}
 use Rattle.std.specs.Cmp.Lexicographic.{pointwise}
 use Rattle.std.proofs.Math.Bool.{beq}
-use Rattle.conflict_proof.specs.Text.{numbers_text, with_line_feeds}
+use Rattle.line_texts.specs.Lines.{with_line_feeds}
+use Rattle.conflict_proof.specs.Text.{numbers_text}
 use Rattle.own_cert.specs.declared.certificate.PlaceBits.{PlaceBits}
 use Rattle.own_cert.specs.declared.certificate.Instance.{Instance}
 use Rattle.own_cert.specs.declared.certificate.Certificate.{Certificate}

@@ -11,8 +11,8 @@
 //! - [`version`] tells the two texts apart, and [`line_in_2`] finds a line of the one in the other.
 //!
 //! Reading takes time and memory in proportion to the text and the certificate, printing in proportion to the
-//! certificate. The crate stands on `conflict_proof` for what such texts have in common, on `c_tree` for want of
-//! memory and on `itoa`.
+//! certificate. The crate stands on `line_texts` and `conflict_proof` for what such texts have in common, on `c_tree`
+//! for want of memory and on `itoa`.
 #![tactic(auto)]
 
 mod certificate;

@@ -1,6 +1,6 @@
 ghost use Rattle.std.specs.Prelude.{◌≡◌, ◌<◌, ◌^◌, ◌++◌, ◌∷◌, [], map, codes, decimal, IfOk, OnOk, None};
 ghost use Rattle.std.specs.List.{All};
-ghost use Rattle.conflict_proof.specs.Text.{with_line_feeds};
+ghost use Rattle.line_texts.specs.Lines.{with_line_feeds};
 ghost use Rattle.own_cert.specs.declared.certificate.Certificate.{Certificate};
 ghost use Rattle.own_cert.specs.declared.lines.Version.TheVariants as version;
 ghost use Rattle.own_cert.specs.Text.{certificate_text, header_text, bits_text, instance_lines, place_lines, line_text, runs_of};

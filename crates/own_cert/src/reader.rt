@@ -1,8 +1,7 @@
 ghost use Rattle.std.specs.Prelude.{◌≡◌, IfOk, IfErr, MatchOption};
-ghost use Rattle.conflict_proof.specs.Fault.{line_feeds};
 ghost use Rattle.own_cert.specs.declared.certificate.Certificate.{Certificate};
 ghost use Rattle.own_cert.specs.Values.{IsCertificate, IsTextOf};
-ghost use Rattle.own_cert.specs.Reading.{IsCut, Leads, Wrong};
+ghost use Rattle.own_cert.specs.Reading.{Leads, Wrong};
 ghost use Rattle.own_cert.specs.Fault.{Refuses};
 
 use crate::certificate::Certificate;
@@ -10,6 +9,7 @@ use crate::draft::{State, next};
 use crate::line_reader::line;
 use c_tree::Memory;
 use conflict_proof::{TextError, form_at};
+use line_texts::next_line;
 use std::alloc::Global;
 
 /// The certificate whose text the bytes are, in either version; there is no other one. Where they are no
@@ -41,18 +41,6 @@ pub fn read(alloc: Global, text: &[u8]) -> Result<Certificate, TextError>
         }
         _ => Err(form_at(number)),
     }
-}
-
-/// The line at the front without its line feed, and what follows that. None where no line feed is there.
-fn next_line(text: &[u8]) -> Option<(&[u8], &[u8])>
-    ensures { MatchOption result (line_feeds text.now ≡ 0) (λ found. IsCut text.now found.0.now found.1.now) }
-{
-    for (end, byte) in text.iter().enumerate() {
-        if *byte == b'\n' {
-            return Some((text.split_at(end).0, text.split_at(end + 1).1));
-        }
-    }
-    None
 }
 
 /// Where reading stands after a line.

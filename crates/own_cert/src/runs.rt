@@ -107,6 +107,8 @@ pub(crate) fn push_run(alloc: Global, rows: &mut Rows, run: Run) -> Result<(), M
         last,
         bits,
     } = run;
+    // once, since a short line may stand for very many rows
+    rows.items.reserve((last - first) as usize + 1)?;
     for place in first..last {
         let copy = Bits {
             items: Vec::from_slice(alloc, &bits.items)?,

@@ -1,6 +1,7 @@
 use Rattle.std.proofs.Common.{◌≡◌, ◌∷◌, map, take, codes}
 use Rattle.std.specs.List.{All}
-use Rattle.conflict_proof.specs.Text.{line_text, with_line_feeds}
+use Rattle.line_texts.specs.Lines.{with_line_feeds}
+use Rattle.conflict_proof.specs.Text.{line_text}
 use Rattle.conflict_proof.specs.Values.{IsLine}
 use Rattle.conflict_proof.proofs.printer.print.Given as goal
 

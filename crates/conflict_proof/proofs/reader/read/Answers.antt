@@ -14,9 +14,10 @@ returns-in_default-end-clause-refused c =
     let ls = c.in-Ok.items.items in
     let count : c.len-count.result ≡ length ls = search rules in
     let begun : Begun c.args.text.now ls c.in-Ok.rest.now = begun_of c.args.text.now c.in-Some.body.now c.in-Ok.rest.now ls c.in-Some.ensures c.in-Ok.ensures (omega (arith, count, c.len-count.type_inv)) in
+    let small : length ls + 3 < 2 ^ 64 = omega (arith, count, c.in-Ok.items.ok, c.in-Ok.items.small) in
     let none : NoEnd (length ls) c.in-Ok.rest.now = subst (λ n. NoEnd n c.in-Ok.rest.now) count c.in_default-end.ensures in
     let fault = subst (λ n. IsFormAt (n + 2) c.form_at-in_default-end.result) count c.form_at-in_default-end.ensures in
-    refuses_at c.args.text.now (length ls + 2) c.form_at-in_default-end.result fault (no_end c.args.text.now ls c.in-Ok.rest.now begun none) (bad_line c.args.text.now ls c.in-Ok.rest.now begun none)
+    refuses_at c.args.text.now (length ls + 2) c.form_at-in_default-end.result fault (no_end c.args.text.now ls c.in-Ok.rest.now begun none) (bad_line c.args.text.now ls c.in-Ok.rest.now small begun none)
 
 pub returns-then-not-is_empty-clause-refused : goal.returns-then-not-is_empty-clause-refused
 returns-then-not-is_empty-clause-refused c =
@@ -25,9 +26,10 @@ returns-then-not-is_empty-clause-refused c =
     let count : c.len-count.result ≡ length ls = search rules in
     let begun : Begun c.args.text.now ls c.in-Ok.rest.now = begun_of c.args.text.now c.in-Some.body.now c.in-Ok.rest.now ls c.in-Some.ensures c.in-Ok.ensures (omega (arith, count, c.len-count.type_inv)) in
     let ends : c.in-Ok.rest.now ≡ end_text (length ls) ++ 10 ∷ more = subst (λ n. c.in-Ok.rest.now ≡ end_text n ++ 10 ∷ more) count c.in-Some-end.ensures in
+    let small : length ls + 3 < 2 ^ 64 = omega (arith, count, c.in-Ok.items.ok, c.in-Ok.items.small) in
     let some : 0 < length more = some_from_test (length more) c.if-not-is_empty.ensures in
     let fault = subst (λ n. IsFormAt (n + 3) c.form_at-then-not-is_empty.result) count c.form_at-then-not-is_empty.ensures in
-    refuses_at c.args.text.now (length ls + 3) c.form_at-then-not-is_empty.result fault (no_more c.args.text.now ls c.in-Ok.rest.now more begun ends some) (bad_more c.args.text.now ls c.in-Ok.rest.now more begun ends)
+    refuses_at c.args.text.now (length ls + 3) c.form_at-then-not-is_empty.result fault (no_more c.args.text.now ls c.in-Ok.rest.now more begun ends some) (bad_more c.args.text.now ls c.in-Ok.rest.now more small begun ends)
 
 pub returns-clause-found : goal.returns-clause-found
 returns-clause-found c =
@@ -43,6 +45,9 @@ returns-clause-found c =
 pub returns-clause-only : goal.returns-clause-only
 returns-clause-only c =
     let ls = c.in-Ok.items.items in
+    let more = c.in-Some-end.more.now in
     let count : c.len-count.result ≡ length ls = search rules in
     let begun : Begun c.args.text.now ls c.in-Ok.rest.now = begun_of c.args.text.now c.in-Some.body.now c.in-Ok.rest.now ls c.in-Some.ensures c.in-Ok.ensures (omega (arith, count, c.len-count.type_inv)) in
-    only_text c.args.text.now ls c.in-Ok.rest.now begun
+    let ends : c.in-Ok.rest.now ≡ end_text (length ls) ++ 10 ∷ more = subst (λ n. c.in-Ok.rest.now ≡ end_text n ++ 10 ∷ more) count c.in-Some-end.ensures in
+    let none : length more ≡ 0 = none_from_test (length more) (sym c.if-not-is_empty.false ∙ c.is_empty.ensures) in
+    only_text c.args.text.now ls c.in-Ok.rest.now more begun ends none

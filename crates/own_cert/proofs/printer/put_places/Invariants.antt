@@ -1,6 +1,6 @@
 use Rattle.std.proofs.Common.{◌≡◌, ◌++◌, map, take}
 use Rattle.std.specs.List.{All}
-use Rattle.conflict_proof.specs.Text.{with_line_feeds}
+use Rattle.line_texts.specs.Lines.{with_line_feeds}
 use Rattle.own_cert.specs.declared.lines.Version.TheVariants.{First}
 use Rattle.own_cert.specs.Text.{place_lines, line_text}
 use Rattle.own_cert.specs.Values.{IsRow}

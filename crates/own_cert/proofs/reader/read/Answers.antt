@@ -1,7 +1,9 @@
 use Rattle.std.proofs.Common.{◌≡◌, ◌<◌, ◌^◌, [], length, arith}
 use Rattle.conflict_proof.proofs.Cases.{none_case, some_case, some_from_test, none_from_test}
 use Rattle.own_cert.specs.declared.draft.State.TheVariants as at
-use Rattle.own_cert.proofs.ReadLemmas.{gone_more, gone_at, shorter, nothing_left, refuses_at, bad_no_text, bad_line, no_line, no_more, no_end, found, only}
+use Rattle.line_texts.proofs.Reading.{gone_more, bad_no_text, bad_line, no_line, no_more, no_end}
+use Rattle.own_cert.specs.Reading.{certificates}
+use Rattle.own_cert.proofs.ReadLemmas.{readable, gone_at, shorter, nothing_left, refuses_at, found_text, only_text}
 use Rattle.own_cert.proofs.reader.read.Goals as goal
 
 pub returns-in-Ok-None-clause-refused : goal.returns-in-Ok-None-clause-refused
@@ -12,8 +14,8 @@ returns-in-Ok-None-clause-refused c =
     let bytes = c.in-Some.bytes.now in
     let after = c.in-Some.after.now in
     let wrong = none_case _ _ c.in-Ok-None.field-0 c.in-Ok-None.ensures c.in-Ok-None.field-0-is in
-    refuses_at text l.number c.form_at.result c.form_at.ensures (bad_no_text text l.rest.now bytes after l.state l.number l.invariant.gone c.in-Some.ensures wrong)
-    (bad_line text l.rest.now bytes after l.state l.number l.invariant.gone small c.in-Some.ensures wrong)
+    refuses_at text l.number c.form_at.result c.form_at.ensures (bad_no_text certificates readable text l.rest.now bytes after l.state l.number l.invariant.gone c.in-Some.ensures wrong)
+    (bad_line certificates readable text l.rest.now bytes after l.state l.number l.invariant.gone small c.in-Some.ensures wrong)
 
 pub loop-bytes-preserved : goal.loop-bytes-preserved
 loop-bytes-preserved c =
@@ -21,7 +23,7 @@ loop-bytes-preserved c =
     let after = c.in-Some.after.now in
     let leads = some_case _ _ c.in-Ok-Some.field-0 c.in-Ok-Some.more c.in-Ok-Some.ensures c.in-Ok-Some.field-0-is in
     record {
-      gone = gone_more c.args.text.now l.rest.now c.in-Some.bytes.now after l.state c.in-Ok-Some.more l.number l.invariant.gone c.in-Some.ensures leads;
+      gone = gone_more certificates c.args.text.now l.rest.now c.in-Some.bytes.now after l.state c.in-Ok-Some.more l.number l.invariant.gone c.in-Some.ensures leads;
       within = let s = shorter l.rest.now c.in-Some.bytes.now after c.in-Some.ensures in omega (arith, l.invariant.within, s);
     }
 
@@ -32,8 +34,8 @@ returns-then-not-is_empty-clause-refused c =
     let small : l.number < 2 ^ 64 = omega (arith, l.auto.number-fits) in
     let some = some_from_test (length l.rest.now) c.if-not-is_empty.ensures in
     refuses_at text l.number c.form_at-then-not-is_empty.result c.form_at-then-not-is_empty.ensures
-    (no_more text l.rest.now l.state l.number l.invariant.gone c.in_default.ensures some)
-    (no_line text l.rest.now l.state l.number l.invariant.gone small c.in_default.ensures)
+    (no_more certificates readable text l.rest.now l.state l.number l.invariant.gone c.in_default.ensures some)
+    (no_line certificates readable text l.rest.now l.state l.number l.invariant.gone small c.in_default.ensures)
 
 pub returns-in-Done-clause-found : goal.returns-in-Done-clause-found
 returns-in-Done-clause-found c =
@@ -41,7 +43,7 @@ returns-in-Done-clause-found c =
     let text = c.args.text.now in
     let small : l.number < 2 ^ 64 = omega (arith, l.auto.number-fits) in
     let empty : l.rest.now ≡ [] = nothing_left l.rest.now (none_from_test (length l.rest.now) c.if-not-is_empty.ensures) in
-    found text c.in-Done.certificate l.number (gone_at text l.rest.now l.state (at.Done c.in-Done.certificate) l.number l.invariant.gone c.in-Done.is empty) small
+    found_text text c.in-Done.certificate l.number (gone_at text l.rest.now l.state (at.Done c.in-Done.certificate) l.number l.invariant.gone c.in-Done.is empty) small
 
 pub returns-in-Done-clause-only : goal.returns-in-Done-clause-only
 returns-in-Done-clause-only c =
@@ -49,7 +51,7 @@ returns-in-Done-clause-only c =
     let text = c.args.text.now in
     let small : l.number < 2 ^ 64 = omega (arith, l.auto.number-fits) in
     let empty : l.rest.now ≡ [] = nothing_left l.rest.now (none_from_test (length l.rest.now) c.if-not-is_empty.ensures) in
-    only text c.in-Done.certificate l.number (gone_at text l.rest.now l.state (at.Done c.in-Done.certificate) l.number l.invariant.gone c.in-Done.is empty)
+    only_text text c.in-Done.certificate l.number (gone_at text l.rest.now l.state (at.Done c.in-Done.certificate) l.number l.invariant.gone c.in-Done.is empty)
 
 pub returns : goal.returns
 returns c =
@@ -61,6 +63,6 @@ returns c =
       only = tt;
       refused =
           refuses_at text l.number c.form_at-in_default-state.result c.form_at-in_default-state.ensures
-          (no_end text l.rest.now l.state l.number l.invariant.gone c.in_default.ensures c.in_default-state.not-Done)
-          (no_line text l.rest.now l.state l.number l.invariant.gone small c.in_default.ensures);
+          (no_end certificates readable text l.rest.now l.state l.number l.invariant.gone c.in_default.ensures c.in_default-state.not-Done)
+          (no_line certificates readable text l.rest.now l.state l.number l.invariant.gone small c.in_default.ensures);
     }

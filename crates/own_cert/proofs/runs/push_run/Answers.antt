@@ -9,7 +9,7 @@ loop-place-preserved c =
     let run = c.args.run in
     let bits = c.bits.inside.items.items in
     let items : c.push.new.self.items ≡ l.rows-inside.items.items ++ row_at run.proc bits l.place ∷ [] = search rules in
-    rows_extended run.proc bits run.first (l.place - run.first) l.place (l.place + 1 - run.first) c.rows.inside.items.items l.rows-inside.items.items c.push.new.self.items
+    rows_extended run.proc bits run.first (l.place - run.first) l.place (l.place + 1 - run.first) c.reserve.new.self.items l.rows-inside.items.items c.push.new.self.items
     (omega (arith, l.auto.place)) (omega (arith, l.auto.place)) l.invariant items
 
 pub returns : goal.returns
@@ -17,7 +17,7 @@ returns c =
     let l = c.loop-place in
     let run = c.args.run in
     let bits = c.bits.inside.items.items in
-    let rows = c.rows.inside.items.items in
+    let rows = c.reserve.new.self.items in
     let same_bits : bits ≡ run.bits = search rules in
     let same_rows : rows ≡ c.args.rows.now = search rules in
     let items : c.push-2.new.self.items ≡ l.rows-inside.items.items ++ row_at run.proc bits run.last ∷ [] = search rules in

@@ -1,8 +1,9 @@
 -- Lines with their line feeds, and the fronts of lines that begin a text.
-use Rattle.std.proofs.Common.{◌≡◌, ℕ, zero, suc, ◌+◌, ◌<◌, ◌≤◌, ◌==◌, Bool, true, false, List, [], ◌∷◌, ◌++◌, length, refl, sym, ap, ◌∙◌, get_or, append_assoc, arith}
+use Rattle.std.proofs.Common.{◌≡◌, ℕ, zero, suc, ◌+◌, ◌<◌, ◌≤◌, ◌==◌, Bool, true, false, List, [], ◌∷◌, ◌++◌, length, take, refl, sym, ap, ◌∙◌, get_or, append_assoc, arith}
+use Rattle.std.proofs.lemmas.Bool.{eqb-true}
+use Rattle.std.proofs.lemmas.List.{take_more}
 use Rattle.std.specs.List.{AllByRecursion}
-use Rattle.conflict_proof.specs.Text.{with_line_feeds}
-use Rattle.conflict_proof.specs.Fault.{line_feeds, first_lines}
+use Rattle.line_texts.specs.Lines.{with_line_feeds, line_feeds, first_lines}
 
 -- no line feed is in these lines
 abbrev pub AreLone : List (List ℕ) → Type 0
@@ -124,3 +125,29 @@ peel (u ∷ us) (v ∷ vs) rest lu lv e =
     let s = same_cut u v (with_line_feeds us) (with_line_feeds vs ++ rest) lu.0 lv.0 (sym one ∙ e ∙ line_assoc v vs rest) in
     let p = peel us vs rest lu.1 lv.1 s.1 in
     record { others = p.others; joined = ap (λ w. w ∷ us) s.0 ∙ ap (λ w. v ∷ w) p.joined; text = p.text }
+
+-- whole lines, one after the other
+pub feeds_join : (us vs : List (List ℕ)) → with_line_feeds (us ++ vs) ≡ with_line_feeds us ++ with_line_feeds vs
+feeds_join [] vs = refl
+feeds_join (u ∷ us) vs =
+    ap (λ (w : List ℕ). (u ++ 10 ∷ []) ++ w) (feeds_join us vs) ∙ sym (append_assoc (u ++ 10 ∷ []) (with_line_feeds us) (with_line_feeds vs))
+
+pub heads : (u v : List ℕ) (us vs : List (List ℕ)) → u ∷ us ≡ v ∷ vs → (u ≡ v) × (us ≡ vs)
+heads u v us vs e = (ap (λ w. first w u) e, ap rest e)
+  where
+    first : List (List ℕ) → List ℕ → List ℕ
+    first [] d = d
+    first (x ∷ xs) d = x
+
+    rest : List (List ℕ) → List (List ℕ)
+    rest [] = []
+    rest (x ∷ xs) = xs
+
+-- bytes up to a line feed
+pub lone_more : (bs : List ℕ) (i : ℕ) → i < length bs → line_feeds (take i bs) ≡ 0 → (get_or bs i 0 ≡ 10 → ⊥) → line_feeds (take (i + 1) bs) ≡ 0
+lone_more bs i low lone other =
+    ap line_feeds (take_more bs i 0 low) ∙ feeds-append (take i bs) (get_or bs i 0 ∷ []) ∙ omega (arith, lone, by_test (get_or bs i 0 == 10) refl)
+  where
+    by_test : (t : Bool) → (get_or bs i 0 == 10) ≡ t → line_feeds (get_or bs i 0 ∷ []) ≡ 0
+    by_test true e = absurd (other (eqb-true (get_or bs i 0) 10 e))
+    by_test false e = rw e refl
