@@ -2,7 +2,8 @@ use Rattle.std.proofs.Common.{◌≤◌, ◌*◌, length, arith}
 use Rattle.std.proofs.lemmas.Result.{err_from_is_err_and}
 use Rattle.c_tree.specs.View.{tree_view}
 use Rattle.c_tree.specs.Nodes.{tree_size}
-use Rattle.clouseau_core.proofs.Tokens.{few_tokens, hold_names}
+use Rattle.c_parser.proofs.HeldNames.{names_held}
+use Rattle.clouseau_core.proofs.Tokens.{few_tokens}
 use Rattle.clouseau_core.proofs.Causes.{lex_failure, parse_failure, type_failure}
 use Rattle.clouseau_core.proofs.source.typed_source.Goals as goal
 
@@ -12,7 +13,7 @@ returns-in_err-tokens-clause-cause c =
     rw (p.1, p.2) (lex_failure c.args.source.now c.in_err-tokens.field-0.0 c.in_err-tokens.ensures.cause)
 
 pub parse-requires : goal.parse-requires
-parse-requires c = rw c.as_slice.ensures.value (hold_names c.in_ok-tokens.tokens.items c.in_ok-tokens.ensures.formed)
+parse-requires c = rw c.as_slice.ensures.value (names_held c.in_ok-tokens.tokens.items c.in_ok-tokens.ensures.formed)
 
 pub returns-in_err-tree-clause-cause : goal.returns-in_err-tree-clause-cause
 returns-in_err-tree-clause-cause c =
