@@ -1,0 +1,15 @@
+pub mod Looking
+pub mod Storing
+pub mod Bucketing
+pub mod Marking
+pub mod Growing
+pub mod Keeping
+pub mod Searching
+pub mod Backing
+pub mod Ahead
+pub mod Placing
+pub mod Adding
+pub mod Picking
+pub mod Costs
+pub mod Consistent
+pub mod Finding

@@ -1,0 +1,5 @@
+use Rattle.zo_solver.specs.Clauses.{EachClause, AreWithin}
+use Rattle.zo_solver.proofs.tests.chain.Given as goal
+
+abbrev pub invariant-loop-number : goal.invariant-loop-number
+invariant-loop-number l = EachClause (AreWithin l.unknowns) l.clauses.items
