@@ -1,0 +1,2 @@
+mod ClauseLemmas
+pub mod Pointers

@@ -1,0 +1,17 @@
+mod EachLemmas
+mod RuleLaws
+mod GroupLaws
+mod ArgLemmas
+mod TableLemmas
+mod NameLemmas
+mod Lookup
+mod Placed
+mod BodyExists
+mod Silent
+mod Few
+mod Members
+mod Groupings
+mod Targets
+mod Whole
+mod Named
+mod Pieces

@@ -1,0 +1,26 @@
+use Rattle.std.proofs.Common.{ℕ, ◌<◌, ◌≤◌, ◌++◌, List, length, take, sym, ap, subst, ◌∙◌}
+use Rattle.std.specs.List.{All, flat_map}
+use Rattle.field_rules.proofs.Pointers.{over_taken, pointers_are_slots}
+use Rattle.transfer_rules.specs.Rules.{same_slot}
+use Rattle.transfer_rules.proofs.Silent.{no_same}
+use Rattle.transfer_rules.proofs.same.push_same.Goals as goal
+
+pub push_slot-requires-clause-from : goal.push_slot-requires-clause-from
+push_slot-requires-clause-from g c =
+    let v = g.S.View.sight c.args.scene.now in
+    let within = subst (λ (xs : List ℕ). All (λ x. x < v.slots) xs) (sym c.pointers-pointers.ensures) (pointers_are_slots v) c.loop-x.x-index 0 c.loop-x-test.true in
+    record { place = c.requires.from; slot = within }
+
+pub push_slot-requires-clause-to : goal.push_slot-requires-clause-to
+push_slot-requires-clause-to g c =
+    let v = g.S.View.sight c.args.scene.now in
+    let within = subst (λ (xs : List ℕ). All (λ x. x < v.slots) xs) (sym c.pointers-pointers.ensures) (pointers_are_slots v) c.loop-x.x-index 0 c.loop-x-test.true in
+    record { place = c.requires.to; slot = within }
+
+pub returns : goal.returns
+returns g c =
+    let v = g.S.View.sight c.args.scene.now in
+    let s = g.S.Scene.setting c.args.scene.now in
+    let line = same_slot v s c.args.way.from c.args.way.number c.args.way.to c.args.action.now in
+    let all = over_taken v line c.loop-x.x-index (no_same v s c.args.way.from c.args.way.number c.args.way.to c.args.action.now) (subst (λ (xs : List ℕ). length xs ≤ c.loop-x.x-index) c.pointers-pointers.ensures c.loop-x-test.false) in
+    c.loop-x.invariant ∙ ap (λ zs. c.args.out.now.items ++ zs) (ap (λ (xs : List ℕ). flat_map line (take c.loop-x.x-index xs)) c.pointers-pointers.ensures ∙ all)
