@@ -1,0 +1,14 @@
+mod Bits
+mod Follow
+pub mod Good
+mod Refuting
+mod Counted
+mod Selected
+mod Used
+mod Propagated
+pub mod Faults
+mod Faultless
+pub mod Numbers
+pub mod Programs
+pub mod Conditions
+mod Scopes

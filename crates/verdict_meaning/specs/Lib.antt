@@ -1,0 +1,12 @@
+pub mod Systems
+pub mod Solutions
+pub mod Certificates
+pub mod CertificateFaults
+pub mod Derivations
+pub mod DerivationFaults
+pub mod UsedNames
+pub mod Selected
+pub mod Closures
+pub mod Plain
+pub mod Laws
+pub mod Programs
