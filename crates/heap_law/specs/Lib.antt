@@ -1,0 +1,10 @@
+pub mod Sums
+pub mod Rules
+pub mod Markings
+pub mod Owners
+pub mod Sound
+pub mod Kept
+pub mod Law
+pub mod Assigned
+pub mod Instances
+pub mod Certified
