@@ -1,0 +1,3 @@
+pub mod PivotLemmas
+pub mod CarryLemmas
+pub mod LineLemmas
