@@ -15,9 +15,15 @@ mod groups;
 #[cfg(test)]
 mod harness;
 #[cfg(test)]
+mod large;
+#[cfg(test)]
+mod places;
+#[cfg(test)]
 mod prefixes;
 #[cfg(test)]
 mod refusals;
+#[cfg(test)]
+mod run_table;
 #[cfg(test)]
 mod runs;
 #[cfg(test)]

@@ -5,10 +5,12 @@ use crate::groups::{MUTUAL, TWICE};
 use crate::harness::graph_of;
 use c_types::LimitKind;
 use flow_graph::Graph;
-use owner_vars::{NumberError, Numbering, number, number_root};
+use owner_vars::{NumberError, Numbering, Site, Sites, fields, number, number_root, sites};
 use recursion_groups::groups;
 use std::alloc::Global;
+use std::process::Abort;
 use std::test::Fail;
+use zo_core::NumberRange;
 
 /// An unknown.
 #[derive(Clone, Copy, Debug)]
@@ -509,6 +511,86 @@ fn unknowns_are_numbered_as_worked_out(rt: HostRuntime) -> Result<(), Fail> {
         }
     }
     Ok(())
+}
+
+/// The calls that leave the group of the two procedures of `RING`, by their numbers.
+const RING_SITES: [Site; 3] = [
+    Site {
+        proc: 2,
+        place: 1,
+        callee: 1,
+    },
+    Site {
+        proc: 3,
+        place: 2,
+        callee: 0,
+    },
+    Site {
+        proc: 3,
+        place: 4,
+        callee: 1,
+    },
+];
+
+/// The calls that leave the group of the procedures 2 and 3.
+fn sites_of_two(alloc: Global, graph: &Graph) -> Result<Sites, Fail>
+    requires { 3 < graph.now.bodies }
+{
+    Ok(sites(alloc, graph, &[2, 3])?)
+}
+
+/// Calls are found by their numbers and by their places.
+fn check_sites(rt: &impl Abort, alloc: Global) -> Result<(), Fail> {
+    let graph = graph_of(alloc, RING.as_bytes())?;
+    assert!(rt; 3 < graph.bodies());
+    let sites = sites_of_two(alloc, &graph)?;
+    assert_eq!(rt; sites.count(), 3);
+    for (number, site) in RING_SITES.iter().enumerate() {
+        let number = number as u32;
+        assert!(rt; number < sites.count());
+        assert_eq!(rt; sites.site(number), *site);
+        assert_eq!(rt; sites.at(site.proc, site.place), Some(number));
+    }
+    // A call inside the group, a place without a call, a procedure outside.
+    for (proc, place) in [(2, 3), (3, 1), (4, 1)] {
+        assert_eq!(rt; sites.at(proc, place), None);
+    }
+    Ok(())
+}
+
+/// What stands together among the unknowns of that group.
+fn check_ranges(rt: &impl Abort, alloc: Global) -> Result<(), Fail> {
+    let graph = graph_of(alloc, RING.as_bytes())?;
+    let numbers = number_group(alloc, &graph, 2)?;
+    let range = |first, count| NumberRange { first, count };
+    assert_eq!(rt; numbers.face(2), range(23, 0));
+    assert_eq!(rt; numbers.site_face(0), range(1, 1));
+    assert_eq!(rt; numbers.site_face(2), range(3, 1));
+    assert_eq!(rt; numbers.row(2, 0), range(4, 1));
+    assert_eq!(rt; numbers.row(3, 0), range(9, 2));
+    assert_eq!(rt; numbers.row(3, 6), range(21, 2));
+    assert_eq!(rt; numbers.row(3, 7), range(23, 0));
+    Ok(())
+}
+
+/// The pointer fields of two structs, of which the second leads to the first.
+fn check_fields(rt: &impl Abort, alloc: Global) -> Result<(), Fail> {
+    let graph = graph_of(alloc, STRUCTS.as_bytes())?;
+    let found = fields(alloc, &graph)?;
+    assert_eq!(rt; found.count(), 3);
+    for (field, owner, target) in [(1, 0, None), (2, 0, None), (3, 1, Some(0))] {
+        assert!(rt; 0 < field && field <= found.count());
+        assert_eq!(rt; found.owner(field), owner);
+        assert_eq!(rt; found.target(field), target);
+    }
+    Ok(())
+}
+
+#[test]
+fn fields_sites_and_ranges_are_found(rt: HostRuntime) -> Result<(), Fail> {
+    check_sites(&rt, rt.alloc())?;
+    check_ranges(&rt, rt.alloc())?;
+    check_fields(&rt, rt.alloc())
 }
 
 /// A body of so many pointers.
