@@ -1,13 +1,13 @@
 -- Numbers of pointer fields, and the tables that are made of them.
-use Rattle.std.proofs.Common.{◌≡◌, ◌+◌, ◌-◌, ◌<◌, ◌≤◌, ◌∷◌, ◌++◌, ◌∙◌, ◌⊎◌, inl, inr, [], ℕ, zero, suc, Bool, true, false, cond, List, length, get_or, take, refl, sym, ap, subst, arith}
+use Rattle.std.proofs.Common.{◌≡◌, ◌+◌, ◌-◌, ◌<◌, ◌≤◌, ◌∷◌, ◌++◌, ◌∙◌, inl, inr, [], ℕ, zero, suc, Bool, true, false, cond, List, length, get_or, take, refl, sym, ap, subst, arith}
 use Rattle.std.proofs.lemmas.Bool.{true≢false, cases_Bool, cases_lt}
 use Rattle.std.proofs.lemmas.List.Elements.{All-get_or}
-use Rattle.std.proofs.lemmas.List.{length-append, append_assoc, append-nil, take_more, take_all, flat_map_more, get_or_past, get_or_read}
+use Rattle.std.proofs.lemmas.List.{length-append, take_more, take_all, flat_map_more, get_or_past, get_or_read}
 use Rattle.std.proofs.lemmas.List.Sums.{sum_by_more, sum_by-take-le}
-use Rattle.std.proofs.lemmas.List.Concat.{get_or-flat_map, flat_map-append}
+use Rattle.std.proofs.lemmas.List.Concat.{get_or-flat_map}
 use Rattle.std.proofs.lemmas.List.FromFn.{length-range_with_len, get_or-range_with_len}
-use Rattle.std.proofs.lemmas.Option.{slice_get_within, get_or_from_slice_get}
-use Rattle.std.specs.Prelude.{map, sum_by, Option, Some, None}
+use Rattle.std.proofs.lemmas.Option.{slice_get-get_or, slice_get_within, get_or_from_slice_get}
+use Rattle.std.specs.Prelude.{map, sum_by, Option}
 use Rattle.std.specs.List.{flat_map, range_with_len}
 use Rattle.c_types.specs.declared.kinds.SlotType.{SlotType}
 use Rattle.c_types.specs.declared.kinds.SlotType.TheVariants as type
@@ -16,11 +16,11 @@ use Rattle.flow_graph.specs.FlowGraph.{FlowGraph, members_of, member_type, type_
 use Rattle.flow_graph.specs.Fits.{HasPointer, IsFlowGraph, pointer_count}
 use Rattle.owner_vars.specs.declared.field_table.Member.{Member}
 use Rattle.owner_vars.specs.Unknowns.{gather, field_count, first_field}
-use Rattle.owner_vars.specs.Fields.{points_to, field_number, field_range, field_owners, field_targets, structs_of}
+use Rattle.owner_vars.specs.Fields.{points_to, field_number, field_range, field_members, field_member, pointer_members, structs_of}
 use Rattle.zo_core.specs.declared.number_range.NumberRange.{NumberRange}
-use Rattle.owner_vars.specs.Tables.{StructRow, owners_in, targets_in, listed, no_struct, no_member, struct_at, kinds_of, graph_with, member_row, member_rows, struct_row, struct_rows, AreFields}
+use Rattle.owner_vars.specs.Tables.{StructRow, owners_in, targets_in, listed, no_struct, no_member, kinds_of, graph_with, member_row, member_rows, struct_row, struct_rows, pointers_before, AreFields}
 use Rattle.owner_vars.proofs.Lists.{gather_agree, gather_front, map-append_lists, length-listed, get_or-listed}
-use Rattle.owner_vars.proofs.Sizes.{members_small, fields_small}
+use Rattle.owner_vars.proofs.Sizes.{members_small, fields_small, pointer_count-push}
 
 -- pointers among types
 
@@ -53,6 +53,13 @@ count_same (t ∷ ts) (suc f) (suc n) p r e = ap suc (count_same ts f n p r (ome
 
 pub pointer_at : (ts : List SlotType) (x : ℕ) → HasPointer ts x → is_pointer (type_in ts x) ≡ true
 pointer_at ts x h = ap is_pointer (get_or_from_slice_get ts x h.type type.Int h.is) ∙ h.pointer
+
+pub pointer_has : (ts : List SlotType) (x : ℕ) → is_pointer (type_in ts x) ≡ true → HasPointer ts x
+pointer_has ts x p = record {
+  type = type_in ts x;
+  is = slice_get-get_or ts x type.Int (there ts x p);
+  pointer = p;
+}
 
 -- what stands for each pointer among types
 module _ {X : Type 0} (v : SlotType → X) where
@@ -126,16 +133,83 @@ gathered F n = range_gather F 0 n ∙ gather_agree n (λ i. F (0 + i)) F (λ i l
     from_zero : (i : ℕ) → 0 + i ≡ i
     from_zero i = omega arith
 
+take_numbers : (n i : ℕ) → i ≤ n → (a : ℕ) → take i (range_with_len a n) ≡ range_with_len a i
+take_numbers n zero le a = refl
+take_numbers zero (suc i) le a = absurd (omega arith)
+take_numbers (suc n) (suc i) le a = ap (λ us. a ∷ us) (take_numbers n i (omega arith) (a + 1))
+
+-- what the lists of the numbers below n, one after another, have at place k of the list z
+pub place_of : {X : Type 0} (F : ℕ → List X) (n z k b : ℕ) (d : X) → z < n → k < length (F z) → length (gather z F) ≡ b → get_or (flat_map F (range_with_len 0 n)) (b + k) d ≡ get_or (F z) k d
+place_of {X = X} F n z k b d lz short begin =
+    let all : List ℕ = range_with_len 0 n in
+    let long = length-range_with_len 0 n in
+    let here : get_or all z 0 ≡ z = get_or-range_with_len 0 n z 0 lz ∙ omega arith in
+    let before : length (flat_map F (take z all)) ≡ b = ap (λ us. length (flat_map F us)) (take_numbers n z (omega (arith, lz)) 0) ∙ ap (λ (xs : List X). length xs) (gathered F z) ∙ begin in
+    ap (λ (i : ℕ). get_or (flat_map F all) i d) (omega (arith, before))
+    ∙ get_or-flat_map F all z k 0 d (omega (arith, lz, long)) (rw here short)
+    ∙ ap (λ i. get_or (F i) k d) here
+
+-- the members that are pointers
+abbrev place_if : List SlotType → ℕ → List ℕ
+place_if ts m = cond (is_pointer (type_in ts m)) (m ∷ []) []
+
+pub pointers_are : (ts : List SlotType) → pointer_members ts ≡ pointers_before (length ts) ts
+pointers_are ts = gathered (place_if ts) (length ts)
+
+pub pointers_before-length : (ts : List SlotType) (n : ℕ) → n ≤ length ts → length (pointers_before n ts) ≡ pointer_count (take n ts)
+pointers_before-length ts zero le = refl
+pointers_before-length ts (suc n) le =
+    let more = ap pointer_count (take_more ts n type.Int (omega arith)) ∙ pointer_count-push (take n ts) (type_in ts n) in
+    let next : suc n ≡ n + 1 = omega arith in
+    length-append (pointers_before n ts) (place_if ts n)
+    ∙ rw next (omega (arith, more, pointers_before-length ts n (omega arith), one_or_none (is_pointer (type_in ts n)) n))
+  where
+    one_or_none : (b : Bool) (m : ℕ) → length (cond b (m ∷ []) []) ≡ cond b 1 0
+    one_or_none true m = refl
+    one_or_none false m = refl
+
+pub pointer_members-length : (ts : List SlotType) → length (pointer_members ts) ≡ pointer_count ts
+pointer_members-length ts =
+    ap (λ (xs : List ℕ). length xs) (pointers_are ts)
+    ∙ pointers_before-length ts (length ts) (omega arith)
+    ∙ ap pointer_count (take_all (length ts) ts (omega arith))
+
+pub pointer_members-at : (ts : List SlotType) (m d : ℕ) → is_pointer (type_in ts m) ≡ true → get_or (pointer_members ts) (pointer_count (take m ts)) d ≡ m
+pointer_members-at ts m d p =
+    let lt = there ts m p in
+    let one : place_if ts m ≡ m ∷ [] = ap (λ b. cond b (m ∷ []) []) p in
+    let at : pointer_count (take m ts) ≡ pointer_count (take m ts) + 0 = omega arith in
+    ap (λ (k : ℕ). get_or (pointer_members ts) k d) at
+    ∙ place_of (place_if ts) (length ts) m 0 (pointer_count (take m ts)) d lt (rw one (omega arith)) (pointers_before-length ts m (omega (arith, lt)))
+    ∙ ap (λ (xs : List ℕ). get_or xs 0 d) one
+
+-- each number below the count is that of a pointer
+abbrev PointerWith : List SlotType → ℕ → Type 0
+PointerWith ts k = (m : ℕ) × (is_pointer (type_in ts m) ≡ true) × (pointer_count (take m ts) ≡ k)
+
+pointer_first : (t : SlotType) (ts : List SlotType) → is_pointer t ≡ true → ((k : ℕ) → k < pointer_count ts → PointerWith ts k) → (k : ℕ) → k < pointer_count (t ∷ ts) → PointerWith (t ∷ ts) k
+pointer_first t ts p rest zero lt = (zero, p, refl)
+pointer_first t ts p rest (suc k) lt =
+    let r = rest k (omega (arith, lt, add_on (is_pointer t) (pointer_count ts) p)) in
+    (suc r.0, r.1, add_on (is_pointer t) (pointer_count (take r.0 ts)) p ∙ ap suc r.2)
+
+pointer_later : (t : SlotType) (ts : List SlotType) → is_pointer t ≡ false → ((k : ℕ) → k < pointer_count ts → PointerWith ts k) → (k : ℕ) → k < pointer_count (t ∷ ts) → PointerWith (t ∷ ts) k
+pointer_later t ts p rest k lt =
+    let r = rest k (omega (arith, lt, add_off (is_pointer t) (pointer_count ts) p)) in
+    (suc r.0, r.1, add_off (is_pointer t) (pointer_count (take r.0 ts)) p ∙ r.2)
+
+pub pointer_with : (ts : List SlotType) (k : ℕ) → k < pointer_count ts → PointerWith ts k
+pointer_with [] k lt = absurd (omega (arith, lt))
+pointer_with (t ∷ ts) k lt = elim (cases_Bool (is_pointer t)) [
+  | inl p ↦ pointer_first t ts p (pointer_with ts) k lt
+  | inr p ↦ pointer_later t ts p (pointer_with ts) k lt
+]
+
 -- a struct that has a pointer member exists
 pub struct_there : (ss : List (List SlotType)) (z f : ℕ) → is_pointer (type_in (get_or ss z []) f) ≡ true → z < length ss
 struct_there [] z f p = absurd (true≢false (sym p))
 struct_there (ts ∷ ss) zero f p = omega arith
 struct_there (ts ∷ ss) (suc z) f p = let lt = struct_there ss z f p in omega arith
-
-take_numbers : (n i : ℕ) → i ≤ n → (a : ℕ) → take i (range_with_len a n) ≡ range_with_len a i
-take_numbers n zero le a = refl
-take_numbers zero (suc i) le a = absurd (omega arith)
-take_numbers (suc n) (suc i) le a = ap (λ us. a ∷ us) (take_numbers n i (omega arith) (a + 1))
 
 module _ (g : FlowGraph) where
   pub range_end : (s : ℕ) → s < length g.structs → first_field g s + pointer_count (members_of g s) ≤ field_count g + 1
@@ -157,25 +231,63 @@ module _ (g : FlowGraph) where
       let end = range_end z (struct_there g.structs z f p) in
       (omega arith, omega (arith, lt, end))
 
+  -- what a table over all pointer fields has at a number of the struct z
+  entry : {X : Type 0} (F : ℕ → List X) → ((m : ℕ) → m ≤ length g.structs → length (gather m F) ≡ sum_by pointer_count (take m g.structs)) → (d : X) (z k : ℕ) → z < length g.structs → k < length (F z)
+      → get_or (flat_map F (range_with_len 0 (length g.structs))) (first_field g z + k - 1) d ≡ get_or (F z) k d
+  entry {X = X} F lengths d z k lz short =
+      let at : first_field g z + k - 1 ≡ sum_by pointer_count (take z g.structs) + k = omega arith in
+      ap (λ (i : ℕ). get_or (flat_map F (range_with_len 0 (length g.structs))) i d) at
+      ∙ place_of F (length g.structs) z k (sum_by pointer_count (take z g.structs)) d lz short (lengths z (omega (arith, lz)))
+
+  abbrev struct_members : ℕ → List ℕ
+  struct_members s = pointer_members (members_of g s)
+
+  struct_members_length : (m : ℕ) → m ≤ length g.structs → length (gather m struct_members) ≡ sum_by pointer_count (take m g.structs)
+  struct_members_length zero le = refl
+  struct_members_length (suc m) le =
+      let before = struct_members_length m (omega arith) in
+      let here = pointer_members-length (members_of g m) in
+      let next : suc m ≡ m + 1 = omega arith in
+      length-append (gather m struct_members) (struct_members m) ∙ (rw next (rw (sum_by_more pointer_count g.structs m [] (omega arith)) (omega (arith, before, here))))
+
+  pub field_members-length : length (field_members g) ≡ field_count g
+  field_members-length =
+      ap (λ (xs : List ℕ). length xs) (gathered struct_members (length g.structs))
+      ∙ struct_members_length (length g.structs) (omega arith)
+      ∙ ap (sum_by pointer_count) (take_all (length g.structs) g.structs (omega arith))
+
+  pub member_at : (z f : ℕ) → is_pointer (member_type g z f) ≡ true → field_member g (field_number g z f) ≡ f
+  member_at z f p =
+      let lt = count_below (members_of g z) f p in
+      let long = pointer_members-length (members_of g z) in
+      entry struct_members struct_members_length 0 z (pointer_count (take f (members_of g z))) (struct_there g.structs z f p) (omega (arith, lt, long))
+      ∙ pointer_members-at (members_of g z) f 0 p
+
+  -- each number up to the count is that of a struct's pointer member
+  struct_with : (n k : ℕ) → n ≤ length g.structs → k < sum_by pointer_count (take n g.structs) → (z : ℕ) × (j : ℕ) × (z < n) × (j < pointer_count (members_of g z)) × (sum_by pointer_count (take z g.structs) + j ≡ k)
+  struct_with zero k le lt = absurd (omega (arith, lt))
+  struct_with (suc n) k le lt =
+      let next : suc n ≡ n + 1 = omega arith in
+      let more : sum_by pointer_count (take (suc n) g.structs) ≡ sum_by pointer_count (take n g.structs) + pointer_count (members_of g n) = ap (λ m. sum_by pointer_count (take m g.structs)) next ∙ sum_by_more pointer_count g.structs n [] (omega arith) in
+      elim (cases_lt k (sum_by pointer_count (take n g.structs))) [
+        | inl early ↦ let r = struct_with n k (omega arith) early in (r.0, r.1, omega (arith, r.2), r.3, r.4)
+        | inr late ↦ (n, k - sum_by pointer_count (take n g.structs), omega arith, omega (arith, late, lt, more), omega (arith, late))
+      ]
+
+  pub field_with : (f : ℕ) → 0 < f → f ≤ field_count g → (z : ℕ) × (m : ℕ) × (is_pointer (member_type g z m) ≡ true) × (field_number g z m ≡ f)
+  field_with f above within =
+      let all : sum_by pointer_count (take (length g.structs) g.structs) ≡ field_count g = ap (sum_by pointer_count) (take_all (length g.structs) g.structs (omega arith)) in
+      let r = struct_with (length g.structs) (f - 1) (omega arith) (omega (arith, above, within, all)) in
+      let p = pointer_with (members_of g r.0) r.1 r.3 in
+      (r.0, p.0, p.1, omega (arith, p.2, r.4, above))
+
   -- what a table over all pointer fields has at a pointer member's number
   pub field_at : {X : Type 0} (v : ℕ → SlotType → X) (d : X) (z f : ℕ) → is_pointer (member_type g z f) ≡ true
       → get_or (flat_map (struct_pointers g v) (range_with_len 0 (length g.structs))) (field_number g z f - 1) d ≡ v z (member_type g z f)
   field_at {X = X} v d z f p =
-      let lz = struct_there g.structs z f p in
       let lt = count_below (members_of g z) f p in
-      let all : List ℕ = range_with_len 0 (length g.structs) in
-      let long = length-range_with_len 0 (length g.structs) in
-      let here : get_or all z 0 ≡ z = get_or-range_with_len 0 (length g.structs) z 0 lz ∙ omega arith in
-      let before : length (flat_map (struct_pointers g v) (take z all)) ≡ sum_by pointer_count (take z g.structs) =
-      ap (λ us. length (flat_map (struct_pointers g v) us)) (take_numbers (length g.structs) z (omega (arith, lz)) 0)
-      ∙ ap (λ (xs : List X). length xs) (gathered (struct_pointers g v) z)
-      ∙ gather_length g v z (omega (arith, lz)) in
-      let at : field_number g z f - 1 ≡ length (flat_map (struct_pointers g v) (take z all)) + pointer_count (take f (members_of g z)) = omega (arith, before) in
-      let short : pointer_count (take f (members_of g z)) < length (struct_pointers g v (get_or all z 0)) =
-      rw here (let l = row_length (v z) (members_of g z) in omega (arith, lt, l)) in
-      ap (λ (n : ℕ). get_or (flat_map (struct_pointers g v) all) n d) at
-      ∙ get_or-flat_map (struct_pointers g v) all z (pointer_count (take f (members_of g z))) 0 d (omega (arith, lz, long)) short
-      ∙ ap (λ k. get_or (struct_pointers g v k) (pointer_count (take f (members_of g z))) d) here
+      let short : pointer_count (take f (members_of g z)) < length (struct_pointers g v z) = let l = row_length (v z) (members_of g z) in omega (arith, lt, l) in
+      entry (struct_pointers g v) (gather_length g v) d z (pointer_count (take f (members_of g z))) (struct_there g.structs z f p) short
       ∙ row_at (v z) (members_of g z) f d p
 
 -- The tables
@@ -202,10 +314,11 @@ structs_back g =
     (map_listed kinds_of (struct_row g) g.structs [] (λ i lt. kinds_back (first_field g i) (members_of g i)) (length g.structs) (omega arith)
     ∙ take_all (length g.structs) g.structs (omega arith))
 
-module _ (g : FlowGraph) (is : IsFlowGraph g) (table : List StructRow) (owners : List ℕ) (targets : List (Option ℕ)) (n : ℕ)
+module _ (g : FlowGraph) (is : IsFlowGraph g) (table : List StructRow) (owners members : List ℕ) (targets : List (Option ℕ)) (n : ℕ)
     (all : n ≡ length g.structs)
     (rows_made : table ≡ listed n (struct_row g))
     (owners_made : owners ≡ gather n (λ s. owners_in s (members_of g s)))
+    (members_made : members ≡ gather n (λ s. pointer_members (members_of g s)))
     (targets_made : targets ≡ gather n (λ s. targets_in (members_of g s))) where
   rows_are : table ≡ struct_rows g
   rows_are = rows_made ∙ ap (λ m. listed m (struct_row g)) all
@@ -213,22 +326,26 @@ module _ (g : FlowGraph) (is : IsFlowGraph g) (table : List StructRow) (owners :
   pub made_view : graph_with table ≡ structs_of g
   made_view = ap graph_with rows_are ∙ structs_back g
 
-  pub made_fields : AreFields (graph_with table) table owners targets
-  made_fields = subst (λ (h : FlowGraph). AreFields h table owners targets) (sym made_view) (record {
+  pub made_fields : AreFields (graph_with table) table owners members targets
+  made_fields = subst (λ (h : FlowGraph). AreFields h table owners members targets) (sym made_view) (record {
     rows = rows_are;
     owned = owners_made ∙ ap (λ m. gather m (λ s. owners_in s (members_of g s))) all ∙ sym (gathered (λ s. owners_in s (members_of g s)) (length g.structs));
+    standing = members_made ∙ ap (λ m. gather m (λ s. pointer_members (members_of g s))) all ∙ sym (gathered (λ s. pointer_members (members_of g s)) (length g.structs));
     led = targets_made ∙ ap (λ m. gather m (λ s. targets_in (members_of g s))) all ∙ sym (gathered (λ s. targets_in (members_of g s)) (length g.structs));
     few = members_small g is;
     small = fields_small g is;
   })
 
 -- what the getters read
-module _ (g : FlowGraph) (table : List StructRow) (owners : List ℕ) (targets : List (Option ℕ)) (h : FlowGraph) (view : h ≡ g) (a : AreFields h table owners targets) where
-  pub known : AreFields g table owners targets
-  known = subst (λ (k : FlowGraph). AreFields k table owners targets) view a
+module _ (g : FlowGraph) (table : List StructRow) (owners members : List ℕ) (targets : List (Option ℕ)) (h : FlowGraph) (view : h ≡ g) (a : AreFields h table owners members targets) where
+  pub known : AreFields g table owners members targets
+  known = subst (λ (k : FlowGraph). AreFields k table owners members targets) view a
 
   pub owners_length : length owners ≡ field_count g
   owners_length = ap (λ (us : List ℕ). length us) known.owned ∙ all_length g (λ s _. s)
+
+  pub members_length : length members ≡ field_count g
+  members_length = ap (λ (us : List ℕ). length us) known.standing ∙ field_members-length g
 
   pub targets_length : length targets ≡ field_count g
   targets_length = ap (λ (us : List (Option ℕ)). length us) known.led ∙ all_length g (λ s t. points_to t)

@@ -1,22 +1,21 @@
 -- The unknowns of a group and of the root: which stand one after another, and their numbers.
-use Rattle.std.proofs.Common.{◌≡◌, ◌+◌, ◌-◌, ◌*◌, ◌<◌, ◌≤◌, ◌∷◌, ◌++◌, ◌∙◌, ◌⊎◌, inl, inr, [], ℕ, zero, suc, Bool, true, false, cond, ◌&&◌, eqb, List, length, get_or, take, drop, refl, sym, ap, subst, arith}
-use Rattle.std.proofs.lemmas.Bool.{true≢false, false≢true, and_parts, and_from, eq-eqb, eqb-true}
-use Rattle.std.proofs.lemmas.List.{length-append, append_assoc, append-nil, length-map, take_all, get_or_default, get_or-map}
+use Rattle.std.proofs.Common.{◌≡◌, ◌+◌, ◌-◌, ◌*◌, ◌<◌, ◌≤◌, ◌∷◌, ◌++◌, ◌∙◌, inl, inr, [], ℕ, zero, suc, Bool, true, false, cond, ◌&&◌, eqb, List, length, get_or, take, drop, refl, sym, ap, subst, arith}
+use Rattle.std.proofs.lemmas.Bool.{false≢true, and_parts, and_from, eq-eqb, eqb-true}
+use Rattle.std.proofs.lemmas.List.{length-append, append_assoc, append-nil, length-map, take_all, get_or-map}
 use Rattle.std.proofs.lemmas.List.FromFn.{get_or-range_with_len}
 use Rattle.std.proofs.lemmas.List.Concat.{length-flat_map}
 use Rattle.std.proofs.lemmas.List.Sums.{sum_by-cons, sum_by_more}
-use Rattle.std.proofs.lemmas.List.Elements.{Contains-append_cases, Contains-get_or}
+use Rattle.std.proofs.lemmas.List.Elements.{Contains-append_cases}
 use Rattle.std.specs.Prelude.{map, sum_by}
 use Rattle.std.specs.List.{Contains, filter, range_with_len, flat_map}
 use Rattle.std.specs.List.Sorted.{IsStrictlyIncreasing}
-use Rattle.c_types.specs.declared.kinds.SlotType.{SlotType}
 use Rattle.c_types.specs.Types.{is_pointer}
 use Rattle.flow_graph.specs.FlowGraph.{FlowGraph, flow_of, slot_type}
 use Rattle.owner_vars.specs.Unknowns.{Unknown, Phi, Pi, Sigma, Rho, Omega, count_from, gather, field_count, field_unknowns, fields_behind, parts_of, interface, site_interfaces, site_callees, slot_unknowns, place_unknowns, proc_unknowns, unknowns, root_unknowns, number_of}
 use Rattle.owner_vars.specs.Tables.{place_in}
 use Rattle.owner_vars.specs.Rows.{is_pi_of, is_sigma_of, is_at}
 use Rattle.owner_vars.specs.Laws.{RowsAreTogether, NumbersFollow, RootNumbersFollow, part_count, place_width, place_total}
-use Rattle.owner_vars.proofs.Lists.{contains_none, contains_cases, contains_map, contains_count, contains_gather, from_map, from_gather, from_count, gather_agree, length-count_from}
+use Rattle.owner_vars.proofs.Lists.{contains_none, contains_cases, from_map, from_gather, length-count_from}
 use Rattle.owner_vars.proofs.SiteLemmas.{gather_split, from_flat, flat_split, stands}
 use Rattle.owner_vars.proofs.RowLemmas.{count_is_range, part_numbers, part_filtered}
 use Rattle.owner_vars.proofs.Whole.{group_ranked, root_ranked}

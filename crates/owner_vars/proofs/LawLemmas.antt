@@ -1,27 +1,24 @@
 -- The laws of pointer fields, of parts, of sites, and of which unknowns there are.
-use Rattle.std.proofs.Common.{◌≡◌, ◌+◌, ◌-◌, ◌<◌, ◌≤◌, ◌∷◌, ◌++◌, ◌∙◌, ◌⊎◌, inl, inr, [], ℕ, zero, suc, Bool, true, false, cond, not, ◌&&◌, ltb, List, length, get_or, take, refl, sym, ap, subst, arith}
+use Rattle.std.proofs.Common.{◌≡◌, ◌+◌, ◌<◌, ◌≤◌, ◌∷◌, ◌∙◌, inl, inr, [], ℕ, true, false, not, ◌&&◌, ltb, List, length, get_or, take, refl, sym, ap, subst, arith}
 use Rattle.std.proofs.lemmas.Bool.{true≢false, cases_lt, lt-ltb}
-use Rattle.std.proofs.lemmas.List.{append-nil, get_or_default, get_or-map}
-use Rattle.std.proofs.lemmas.List.Elements.{Contains-get_or}
-use Rattle.std.proofs.lemmas.List.Quantifiers.{position-Some}
+use Rattle.std.proofs.lemmas.List.{append-nil, get_or-map}
 use Rattle.std.proofs.lemmas.Option.{slice_get_within, get_or_from_slice_get}
-use Rattle.std.specs.Prelude.{map, Option, Some, None, slice_get}
+use Rattle.std.specs.Prelude.{Some, None, slice_get}
 use Rattle.std.specs.List.{All, Contains}
 use Rattle.std.proofs.lemmas.List.Elements.{All-contains}
 use Rattle.std.specs.List.Sorted.{IsStrictlyIncreasing}
-use Rattle.c_types.specs.Types.{is_pointer}
 use Rattle.flow_graph.specs.declared.action.Action.{Action}
 use Rattle.flow_graph.specs.declared.action.Action.TheVariants as act
 use Rattle.flow_graph.specs.declared.action.Edge.{Edge}
 use Rattle.flow_graph.specs.Calls.{callee_of}
-use Rattle.flow_graph.specs.FlowGraph.{Flow, FlowGraph, flow_of, edges_from, members_of, member_type}
+use Rattle.flow_graph.specs.FlowGraph.{Flow, FlowGraph, flow_of, edges_from, members_of}
 use Rattle.flow_graph.specs.Fits.{HasPointer, IsFlowGraph, AreWays, other_side, is_in, out_of, pointer_count}
-use Rattle.owner_vars.specs.Unknowns.{Site, sites_of, sites_along, sites, site_callees}
-use Rattle.owner_vars.specs.Fields.{points_to, field_number, field_owner}
-use Rattle.owner_vars.specs.Sites.{is_site_of, site_at}
+use Rattle.owner_vars.specs.Unknowns.{Site, field_count, sites_of, sites_along, sites}
+use Rattle.owner_vars.specs.Fields.{points_to, field_number, field_owner, field_member}
+use Rattle.owner_vars.specs.Sites.{is_site_of}
 use Rattle.owner_vars.specs.Laws.{FieldsAreNumbered, PartsAreNumbered, HasUnknowns, HasRootUnknowns, CallsOut, IsSiteAt, SitesAreNumbered}
 use Rattle.owner_vars.proofs.Lists.{contains_none, contains_cases, contains_count}
-use Rattle.owner_vars.proofs.FieldLemmas.{pointer_at, count_below, field_in, field_same, field_is, field_at}
+use Rattle.owner_vars.proofs.FieldLemmas.{pointer_at, count_below, field_in, field_same, field_is, field_at, member_at, field_with, pointer_has}
 use Rattle.owner_vars.proofs.SiteLemmas.{at, of_edges, of_sites, stands, before, whole_length, early_fails, late_fails, first_here, found_some, own_place}
 use Rattle.owner_vars.specs.Tables.{place_in}
 use Rattle.owner_vars.proofs.Existence as exist
@@ -39,11 +36,25 @@ fields_law g = record {
       let number : field_number g s m ≡ field_number g s n = e ∙ ap (λ z. field_number g z n) (sym same) in
       (same, field_same g s m n (pointer_at (members_of g s) m h) (pointer_at (members_of g s) n moved) number);
   owner = owner;
+  member = member;
   target = λ s m h. field_at g (λ z t. points_to t) None s m (pointer_at (members_of g s) m h);
+  each = λ f above within. (found f above within).0;
+  back = λ f above within. (found f above within).1;
 }
   where
     owner : (s m : ℕ) → HasPointer (members_of g s) m → field_owner g (field_number g s m) ≡ s
     owner s m h = field_at g (λ z t. z) 0 s m (pointer_at (members_of g s) m h)
+
+    member : (s m : ℕ) → HasPointer (members_of g s) m → field_member g (field_number g s m) ≡ m
+    member s m h = member_at g s m (pointer_at (members_of g s) m h)
+
+    found : (f : ℕ) → 0 < f → f ≤ field_count g → HasPointer (members_of g (field_owner g f)) (field_member g f) × (field_number g (field_owner g f) (field_member g f) ≡ f)
+    found f above within =
+        let r = field_with g f above within in
+        let has : HasPointer (members_of g r.0) r.1 = pointer_has (members_of g r.0) r.1 r.2 in
+        let struct_is : field_owner g f ≡ r.0 = ap (field_owner g) (sym r.3) ∙ owner r.0 r.1 has in
+        let member_is : field_member g f ≡ r.1 = ap (field_member g) (sym r.3) ∙ member r.0 r.1 has in
+        (rw struct_is (rw member_is has), rw struct_is (rw member_is r.3))
 
 pub parts_law : (f : Flow) → PartsAreNumbered f
 parts_law f = record {

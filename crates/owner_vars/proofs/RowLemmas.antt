@@ -1,16 +1,16 @@
 -- Unknowns that stand one after another.
-use Rattle.std.proofs.Common.{◌≡◌, ◌+◌, ◌-◌, ◌*◌, ◌<◌, ◌≤◌, ◌∷◌, ◌++◌, ◌∙◌, ◌⊎◌, inl, inr, [], ℕ, zero, suc, Bool, true, false, cond, List, length, get_or, take, drop, refl, sym, ap, subst, arith}
-use Rattle.std.proofs.lemmas.Bool.{true≢false, cases_Bool, cases_lt, and_parts, eqb-true}
+use Rattle.std.proofs.Common.{◌≡◌, ◌+◌, ◌-◌, ◌<◌, ◌≤◌, ◌∷◌, ◌++◌, ◌∙◌, ◌⊎◌, inl, inr, [], ℕ, zero, suc, Bool, true, false, List, length, get_or, take, drop, refl, sym, ap, subst, arith}
+use Rattle.std.proofs.lemmas.Bool.{cases_Bool}
 use Rattle.std.proofs.lemmas.List.{length-append, append_assoc, append-nil, length-map, get_or_append_left, get_or-append_right}
-use Rattle.std.proofs.lemmas.List.Elements.{Contains-append_left, Contains-append_right, Contains-append_cases, Contains-get_or, filter-append}
-use Rattle.std.specs.Prelude.{map, sum_by}
-use Rattle.std.specs.List.{Contains, filter, range_with_len, flat_map, position_or_len, count_by}
+use Rattle.std.proofs.lemmas.List.Elements.{Contains-append_left, Contains-append_right, Contains-get_or, filter-append}
+use Rattle.std.specs.Prelude.{map}
+use Rattle.std.specs.List.{Contains, filter, range_with_len, position_or_len, count_by}
 use Rattle.std.proofs.lemmas.List.Sums.{position_or_len_is, length-filter}
 use Rattle.std.proofs.Math.Seq.{drop-append_seam, take-append_seam}
 use Rattle.zo_core.specs.declared.number_range.NumberRange.{NumberRange}
 use Rattle.owner_vars.specs.Rows.{range_where}
-use Rattle.owner_vars.specs.Unknowns.{Unknown, Phi, Pi, Sigma, Rho, Omega, count_from, number_of}
-use Rattle.owner_vars.proofs.Lists.{contains_head, contains_tail, contains_none, contains_cases, contains_count, contains_map, from_count, count_from_add, length-count_from, map-append_lists}
+use Rattle.owner_vars.specs.Unknowns.{Unknown, Phi, count_from, number_of}
+use Rattle.owner_vars.proofs.Lists.{contains_head, contains_tail, contains_map, from_count, count_from_add, length-count_from, map-append_lists}
 use Rattle.owner_vars.proofs.Numbers.{number_is, count_is}
 
 pub count_is_range : (a n : ℕ) → count_from a n ≡ range_with_len a n

@@ -1,6 +1,6 @@
 -- Where the sites of a group stand among them.
-use Rattle.std.proofs.Common.{◌≡◌, ◌+◌, ◌-◌, ◌<◌, ◌≤◌, ◌∷◌, ◌++◌, ◌∙◌, ◌⊎◌, inl, inr, [], ℕ, zero, suc, Bool, true, false, cond, not, ◌&&◌, eqb, ltb, List, length, get_or, take, drop, refl, sym, ap, subst, arith}
-use Rattle.std.proofs.lemmas.Bool.{true≢false, false≢true, cases_Bool, cases_lt, cases_eq, and_parts, and_from, eq-eqb, eqb-true, ne_eqb, ltb-true, lt-ltb, le-ltb}
+use Rattle.std.proofs.Common.{◌≡◌, ◌+◌, ◌-◌, ◌<◌, ◌≤◌, ◌∷◌, ◌++◌, ◌∙◌, inl, inr, [], ℕ, zero, suc, Bool, true, false, cond, not, ◌&&◌, eqb, ltb, List, length, get_or, take, drop, refl, sym, ap, subst, arith}
+use Rattle.std.proofs.lemmas.Bool.{true≢false, false≢true, cases_Bool, cases_lt, and_parts, and_from, eq-eqb, eqb-true, ne_eqb, ltb-true, lt-ltb, le-ltb}
 use Rattle.std.proofs.lemmas.List.{length-append, append_assoc, take_more, take-append-drop, get_or_append_left, get_or-append_right, get_or-take, get_or-drop, length-drop, length-take, append-nil, get_or_default, get_or_read, take_all}
 use Rattle.std.proofs.lemmas.List.Quantifiers.{position-Some}
 use Rattle.std.proofs.lemmas.List.Concat.{flat_map-append}
@@ -18,7 +18,7 @@ use Rattle.flow_graph.specs.Fits.{is_in}
 use Rattle.owner_vars.specs.Unknowns.{Site, gather, sites_of, sites_along, sites}
 use Rattle.owner_vars.specs.Sites.{is_site_of, site_among, site_at}
 use Rattle.owner_vars.specs.Tables.{listed, place_in, sites_before, sites_from, site_row, site_rows, row_of, AreSites}
-use Rattle.owner_vars.proofs.Lists.{contains_none, contains_cases, contains_head, contains_tail, from_gather, contains_gather, length-listed, get_or-listed}
+use Rattle.owner_vars.proofs.Lists.{contains_none, contains_cases, contains_head, contains_tail, from_gather, length-listed, get_or-listed}
 use Rattle.owner_vars.proofs.IndexLemmas.{ascends, apart, is_in_true}
 
 -- the first that passes

@@ -1,5 +1,5 @@
 -- The ranges of numbers that the tables give.
-use Rattle.std.proofs.Common.{◌≡◌, ◌+◌, ◌-◌, ◌*◌, ◌<◌, ◌≤◌, ◌∷◌, ◌++◌, ◌∙◌, ◌⊎◌, inl, inr, [], ℕ, zero, suc, Bool, true, false, cond, ◌&&◌, eqb, List, length, get_or, refl, sym, ap, subst, arith}
+use Rattle.std.proofs.Common.{◌≡◌, ◌+◌, ◌*◌, ◌<◌, ◌≤◌, ◌∷◌, ◌++◌, ◌∙◌, inl, inr, [], ℕ, suc, Bool, true, false, cond, ◌&&◌, eqb, List, length, get_or, refl, sym, ap, subst, arith}
 use Rattle.std.proofs.lemmas.Bool.{true≢false, false≢true, cases_lt, cases_Bool, and_parts, and_from, eq-eqb, eqb-true, ne_eqb}
 use Rattle.std.proofs.lemmas.List.{append_assoc, get_or_read, get_or_default}
 use Rattle.std.proofs.lemmas.List.Elements.{Contains-get_or}
@@ -8,9 +8,9 @@ use Rattle.std.specs.List.{Contains}
 use Rattle.flow_graph.specs.Fits.{is_in}
 use Rattle.owner_vars.specs.declared.tables.Face.{Face}
 use Rattle.owner_vars.specs.declared.tables.SlotRow.{SlotRow}
-use Rattle.owner_vars.specs.Unknowns.{Unknown, Phi, Pi, Sigma, Rho, Omega, count_from, gather}
+use Rattle.owner_vars.specs.Unknowns.{Unknown, Pi, Sigma, Rho, Omega, count_from, gather}
 use Rattle.owner_vars.specs.Rows.{is_pi_of, is_sigma_of, is_at}
-use Rattle.owner_vars.specs.Tables.{Rows, total, no_face, no_rows, place_in, face_parts, face_size, part_place, face_at, rows_at, no_numbers, face_numbers, slot_at, slot_list, place_list, rows_list, table_list, rank, IsTable}
+use Rattle.owner_vars.specs.Tables.{Rows, no_face, no_rows, place_in, face_parts, face_size, part_place, face_at, rows_at, no_numbers, face_numbers, slot_at, slot_list, place_list, rows_list, table_list, rank, IsTable}
 use Rattle.owner_vars.proofs.Lists.{contains_none, contains_cases, from_map, from_gather, total_same}
 use Rattle.owner_vars.proofs.Numbers.{count_is}
 use Rattle.owner_vars.proofs.IndexLemmas.{is_in_true, from_is_in}

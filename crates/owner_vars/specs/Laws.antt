@@ -1,27 +1,29 @@
 -- What numbers of pointer fields, of sites and of unknowns keep.
-use Rattle.std.specs.Prelude.{◌≡◌, ℕ, ◌+◌, ◌*◌, ◌<◌, ◌≤◌, Bool, true, false, List, length, take, map, Option, Some, None, sum_by, slice_get, slice_index}
-use Rattle.std.specs.List.{All, Contains, filter, range_with_len}
-use Rattle.std.specs.List.Sorted.{IsStrictlyIncreasing}
-use Rattle.c_types.specs.Types.{is_pointer}
+use Rattle.std.specs.Prelude.{◌≡◌, ℕ, ◌+◌, ◌*◌, ◌<◌, ◌≤◌, true, false, List, length, take, map, Some, sum_by, slice_get, slice_index}
+use Rattle.std.specs.List.{Contains, filter, range_with_len}
 use Rattle.flow_graph.specs.declared.action.Edge.{Edge}
 use Rattle.flow_graph.specs.Calls.{callee_of}
 use Rattle.flow_graph.specs.FlowGraph.{Flow, FlowGraph, flow_of, edges_from, members_of, member_type, slot_type}
-use Rattle.flow_graph.specs.Fits.{HasPointer, is_in, pointer_count}
-use Rattle.owner_vars.specs.Unknowns.{Unknown, Phi, Pi, Sigma, Rho, Omega, Site, field_count, fields_of, fields_behind, returns_pointer, parts_of, interface, sites, site_callees, place_unknowns, proc_unknowns, unknowns, root_unknowns, number_of}
-use Rattle.owner_vars.specs.Fields.{points_to, field_number, field_owner, field_target, part_of}
+use Rattle.flow_graph.specs.Fits.{HasPointer, is_in}
+use Rattle.owner_vars.specs.Unknowns.{Phi, Pi, Sigma, Rho, Omega, Site, field_count, fields_of, fields_behind, returns_pointer, parts_of, interface, sites, site_callees, place_unknowns, unknowns, root_unknowns, number_of}
+use Rattle.owner_vars.specs.Fields.{points_to, field_number, field_owner, field_member, field_target, part_of}
 use Rattle.owner_vars.specs.Sites.{site_at}
 use Rattle.owner_vars.specs.Rows.{is_pi_of, is_sigma_of, is_at}
 
 -- Pointer fields and parts
 
--- each pointer member has a number up to the count, no two have one, and the tables lead back from it
+-- Each pointer member has a number up to the count, no two have one, and the tables lead back from it; and each number up to
+-- the count is that of a pointer member.
 pub record FieldsAreNumbered (g : FlowGraph) : Type 0 where
   pub above : (s m : ℕ) → HasPointer (members_of g s) m → 0 < field_number g s m
   pub within : (s m : ℕ) → HasPointer (members_of g s) m → field_number g s m ≤ field_count g
   pub among : (s m : ℕ) → HasPointer (members_of g s) m → Contains (fields_of g s) (field_number g s m)
   pub apart : (s m t n : ℕ) → HasPointer (members_of g s) m → HasPointer (members_of g t) n → field_number g s m ≡ field_number g t n → (s ≡ t) × (m ≡ n)
   pub owner : (s m : ℕ) → HasPointer (members_of g s) m → field_owner g (field_number g s m) ≡ s
+  pub member : (s m : ℕ) → HasPointer (members_of g s) m → field_member g (field_number g s m) ≡ m
   pub target : (s m : ℕ) → HasPointer (members_of g s) m → field_target g (field_number g s m) ≡ points_to (member_type g s m)
+  pub each : (f : ℕ) → 0 < f → f ≤ field_count g → HasPointer (members_of g (field_owner g f)) (field_member g f)
+  pub back : (f : ℕ) → 0 < f → f ≤ field_count g → field_number g (field_owner g f) (field_member g f) ≡ f
 
 -- each pointer parameter is a part of the interface, and so is a result that is a pointer
 pub record PartsAreNumbered (f : Flow) : Type 0 where

@@ -2,7 +2,7 @@
 use Rattle.std.specs.Prelude.{ℕ, ◌+◌, Bool, false, ◌&&◌, List, nat_eq}
 use Rattle.std.specs.List.{position_or_len, count_by}
 use Rattle.zo_core.specs.declared.number_range.NumberRange.{NumberRange}
-use Rattle.owner_vars.specs.Unknowns.{Unknown, Phi, Pi, Sigma, Rho, Omega}
+use Rattle.owner_vars.specs.Unknowns.{Unknown, Pi, Sigma, Rho, Omega}
 
 -- the unknown is of the interface of this procedure
 abbrev pub is_pi_of : ℕ → Unknown → Bool

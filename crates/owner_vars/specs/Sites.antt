@@ -1,5 +1,5 @@
 -- The numbers of sites by procedure and place. A call stands alone at its place, so a place has one site at most.
-use Rattle.std.specs.Prelude.{ℕ, List, Bool, ◌&&◌, Option, Some, None, nat_eq, position}
+use Rattle.std.specs.Prelude.{ℕ, List, Bool, ◌&&◌, Option, nat_eq, position}
 use Rattle.flow_graph.specs.FlowGraph.{FlowGraph}
 use Rattle.owner_vars.specs.Unknowns.{Site, sites}
 

@@ -11,7 +11,7 @@ use crate::field_walk::fields;
 use crate::index::Index;
 use crate::numbering::Numbering;
 use crate::site_walk::sites;
-use crate::tables::{graph_law, make_faces, make_rows};
+use crate::tables::{make_faces, make_rows};
 use c_tree::Memory;
 use c_types::LimitKind;
 use flow_graph::Graph;
@@ -49,7 +49,7 @@ pub fn number_with(
     ensures within { OnOk result (length (unknowns graph.now members.now) ≤ 8388608) }
     ensures err { IfErr result (IsRefused (unknowns graph.now members.now)) }
 {
-    graph_law(graph);
+    graph.law();
     let sites = sites(alloc, graph, members)?;
     let callees = sites.callees(alloc)?;
     let index = Index::new(alloc, members)?;
@@ -96,7 +96,7 @@ pub fn number_root_with(
     requires count { length firsts.now ≤ graph.now.bodies }
     ensures { IfOk result (λ us. us ≡ root_unknowns graph.now firsts.now) }
 {
-    graph_law(graph);
+    graph.law();
     let pointers = fields.count();
     let sites = make_faces(alloc, graph, firsts, u64::from(pointers))?;
     Ok(Numbering {

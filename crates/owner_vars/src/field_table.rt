@@ -2,7 +2,7 @@ ghost use Rattle.std.specs.Prelude.{◌≡◌, ◌+◌, ◌<◌, ◌≤◌, leng
 ghost use Rattle.flow_graph.specs.FlowGraph.{members_of};
 ghost use Rattle.flow_graph.specs.Fits.{HasPointer};
 ghost use Rattle.owner_vars.specs.Unknowns.{field_count};
-ghost use Rattle.owner_vars.specs.Fields.{field_number, field_range, field_owner, field_target};
+ghost use Rattle.owner_vars.specs.Fields.{field_number, field_range, field_owner, field_member, field_target};
 
 use c_types::SlotType;
 use std::marker::Model;
@@ -38,8 +38,9 @@ impl Model for StructRow {
 #[derive(Drop)]
 pub struct Fields {
     pub(crate) structs: Vec<StructRow>,
-    // for each pointer field the struct that has it, and the one to which it points
+    // for each pointer field the struct that has it, which member it is there, and the struct to which it points
     pub(crate) owners: Vec<u32>,
+    pub(crate) members: Vec<u32>,
     pub(crate) targets: Vec<Option<u32>>,
 }
 
@@ -51,7 +52,7 @@ impl Model for Fields {
 
     ghost view = { λ f. graph_with f.structs.items };
 
-    ghost invariant = { λ f. AreFields (graph_with f.structs.items) f.structs.items f.owners.items f.targets.items };
+    ghost invariant = { λ f. AreFields (graph_with f.structs.items) f.structs.items f.owners.items f.members.items f.targets.items };
 }
 
 impl Fields {
@@ -81,6 +82,15 @@ impl Fields {
         ensures { result ≡ field_owner self.now field }
     {
         self.owners[field as usize - 1]
+    }
+
+    /// Which member of its struct a pointer field is, from 0.
+    pub fn member(&self, field: u32) -> u32
+        requires some { 0 < field }
+        requires within { field ≤ field_count self.now }
+        ensures { result ≡ field_member self.now field }
+    {
+        self.members[field as usize - 1]
     }
 
     /// The struct to which a pointer field points; none where it points to integers.

@@ -1,9 +1,9 @@
 ghost use Rattle.std.specs.Prelude.{◌≡◌, ◌+◌, ◌++◌, ◌<◌, ◌^◌, length, IfOk, OnOk};
-ghost use Rattle.owner_vars.specs.Fields.{structs_of, points_to};
+ghost use Rattle.owner_vars.specs.Fields.{structs_of, points_to, pointer_members};
 ghost use Rattle.owner_vars.specs.Tables.{member_rows, owners_in, targets_in};
 
 use crate::field_table::{Fields, Member, StructRow};
-use crate::tables::{graph_law, pointer_count};
+use crate::tables::pointer_count;
 use c_tree::Memory;
 use c_types::SlotType;
 use flow_graph::Graph;
@@ -14,15 +14,17 @@ use zo_core::NumberRange;
 pub fn fields(alloc: Global, graph: &Graph) -> Result<Fields, Memory>
     ensures { IfOk result (λ f. f ≡ structs_of graph.now) }
 {
-    graph_law(graph);
+    graph.law();
     let mut structs = Vec::new(alloc);
     let mut owners = Vec::new(alloc);
+    let mut places = Vec::new(alloc);
     let mut targets = Vec::new(alloc);
     let mut first = 1;
     for structure in 0..graph.structs() {
         let kinds = graph.members(structure);
         let members = member_rows(alloc, first, kinds)?;
         add_pointers(structure, kinds, &mut owners, &mut targets)?;
+        add_places(kinds, &mut places)?;
         let count = pointer_count(kinds) as u32;
         structs.push(StructRow {
             range: NumberRange { first, count },
@@ -33,6 +35,7 @@ pub fn fields(alloc: Global, graph: &Graph) -> Result<Fields, Memory>
     Ok(Fields {
         structs,
         owners,
+        members: places,
         targets,
     })
 }
@@ -68,6 +71,19 @@ fn add_pointers(
         if kind.is_pointer() {
             owners.push(structure)?;
             targets.push(points_to(*kind))?;
+        }
+    }
+    Ok(())
+}
+
+/// Adds which of a struct's members are pointers.
+fn add_places(kinds: &[SlotType], places: &mut Vec<u32>) -> Result<(), Memory>
+    requires { length kinds.now < 2 ^ 32 }
+    ensures { OnOk result (places.new.items ≡ places.old.items ++ pointer_members kinds.now) }
+{
+    for (place, kind) in kinds.iter().enumerate() {
+        if kind.is_pointer() {
+            places.push(place as u32)?;
         }
     }
     Ok(())

@@ -7,7 +7,6 @@ ghost use Rattle.owner_vars.specs.Tables.{sites_from, site_row};
 use crate::index::Index;
 use crate::site::Site;
 use crate::site_table::{SiteRow, Sites};
-use crate::tables::graph_law;
 use c_tree::Memory;
 use flow_graph::{Action, Edge, Graph};
 use std::alloc::Global;
@@ -19,7 +18,7 @@ pub fn sites(alloc: Global, graph: &Graph, members: &[u32]) -> Result<Sites, Mem
     requires bodies { All (λ k. k < graph.now.bodies) members.now }
     ensures { IfOk result (λ s. s ≡ sites graph.now members.now) }
 {
-    graph_law(graph);
+    graph.law();
     let index = Index::new(alloc, members)?;
     let mut rows = Vec::new(alloc);
     let mut items = Vec::new(alloc);
@@ -46,7 +45,7 @@ fn add_member(
     ensures sites { OnOk result (sites.new.items ≡ sites.old.items ++ sites_from graph.now members.now proc) }
     ensures row { IfOk result (λ r. r ≡ site_row graph.now members.now (length sites.old.items) proc) }
 {
-    graph_law(graph);
+    graph.law();
     let mut before = Vec::new(alloc);
     for place in 0..graph.places(proc).len() as u32 {
         before.push(sites.len())?;

@@ -74,13 +74,6 @@ pub(crate) struct AllRows {
     pub end: u64,
 }
 
-/// What every graph keeps; it does nothing.
-pub(crate) fn graph_law(graph: &Graph)
-    ensures { IsFlowGraph graph.now }
-{
-    let _ = graph.bodies();
-}
-
 /// How many of these types are pointers.
 pub(crate) fn pointer_count(types: &[SlotType]) -> usize
     ensures { result ≡ pointer_count types.now }
@@ -98,7 +91,7 @@ fn make_face(graph: &Graph, before: u64, proc: u32) -> Face
     ensures face { result ≡ face_of graph.now before proc }
     ensures small { interface_size graph.now proc ≤ 9 }
 {
-    graph_law(graph);
+    graph.law();
     Face {
         before,
         params: pointer_count(graph.params(proc)) as u32,
@@ -179,7 +172,7 @@ fn rows_from(
     requires fields { fields.now ≡ structs_of graph.now }
     ensures { IfOk result (λ r. r ≡ rows_of graph.now before proc) }
 {
-    graph_law(graph);
+    graph.law();
     let slots = make_slot_rows(alloc, fields, graph.slots(proc))?;
     Ok(Rows {
         before,
@@ -206,7 +199,7 @@ pub(crate) fn make_rows(
 {
     let mut items = Vec::new(alloc);
     let mut end = before;
-    graph_law(graph);
+    graph.law();
     for member in members {
         let rows = rows_from(alloc, graph, fields, end, *member)?;
         let size = u64::from(rows.places) * u64::from(rows.width);

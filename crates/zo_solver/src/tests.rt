@@ -132,21 +132,29 @@ fn solve(solver: &mut Solver, assumed: &Clause) -> Answer
     solver.solve(assumed.lits())
 }
 
-/// What the clauses are under these assumptions, and how many words that took.
-fn ask(
-    alloc: Global,
-    clauses: &[Clause],
-    words: u64,
-    assumed: &Clause,
-) -> Result<(Answer, u64), Memory>
+/// What clauses are under assumptions.
+#[derive(Clone, Copy)]
+struct Asked {
+    answer: Answer,
+    // the words of the lines, and whether these are what their origins say
+    cost: u64,
+    derived: bool,
+}
+
+/// What the clauses are under these assumptions, with that many words.
+fn ask(alloc: Global, clauses: &[Clause], words: u64, assumed: &Clause) -> Result<Asked, Memory>
     requires clauses { EachClause (AreWithin 2) clauses.now }
     requires assumed { AreWithin 2 assumed.now }
     requires words { words ≤ 100 }
-    ensures { IfOk result (λ r. r.1 ≤ 100) }
+    ensures { IfOk result (λ r. r.cost ≤ 100) }
 {
     let mut solver = Solver::new(alloc, 2, clauses, words)?;
     let answer = solve(&mut solver, assumed);
-    Ok((answer, words - solver.words_left()))
+    Ok(Asked {
+        answer,
+        cost: words - solver.words_left(),
+        derived: are_derived(&solver, clauses),
+    })
 }
 
 /// Whether a clause is true where unknown 1 is the first bit, unknown 2 the second, and so on.
@@ -170,14 +178,15 @@ fn decides_two_unknowns(rt: HostRuntime) -> Result<(), Fail> {
         let clauses = subset(rt.alloc(), set)?;
         for number in 0..9u32 {
             let assumed = clause(rt.alloc(), number)?;
-            let (answer, cost) = ask(rt.alloc(), clauses.as_slice(), 100, &assumed)?;
-            assert!(&rt; (answer == Answer::Sat) == can_be_met(2, clauses.as_slice(), &assumed));
-            assert!(&rt; answer != Answer::Spent);
-            let (same, _) = ask(rt.alloc(), clauses.as_slice(), cost, &assumed)?;
-            assert!(&rt; same == answer);
-            for words in 0..cost {
-                let (less, _) = ask(rt.alloc(), clauses.as_slice(), words, &assumed)?;
-                assert!(&rt; less == Answer::Spent);
+            let all = ask(rt.alloc(), clauses.as_slice(), 100, &assumed)?;
+            let met = can_be_met(2, clauses.as_slice(), &assumed);
+            assert!(&rt; all.derived && all.answer != Answer::Spent);
+            assert!(&rt; (all.answer == Answer::Sat) == met);
+            let same = ask(rt.alloc(), clauses.as_slice(), all.cost, &assumed)?;
+            assert!(&rt; same.derived && same.answer == all.answer);
+            for words in 0..all.cost {
+                let less = ask(rt.alloc(), clauses.as_slice(), words, &assumed)?;
+                assert!(&rt; less.derived && less.answer == Answer::Spent);
             }
         }
     }
@@ -321,18 +330,20 @@ fn is_derived(solver: &Solver, given: &[Clause], number: u32) -> bool
     }
 }
 
+/// The same of each line.
+fn are_derived(solver: &Solver, given: &[Clause]) -> bool {
+    (0..solver.lines()).all(|index| is_derived(solver, given, index + 1))
+}
+
 /// Whether a solver over eight unknowns answers as trying all values does, by lines that are what their origins say.
 fn is_right(solver: &mut Solver, given: &[Clause], assumed: &Clause) -> bool
     requires { AreWithin solver.old.vars assumed.now }
     ensures { solver.new.vars ≡ solver.old.vars }
 {
     let answer = solve(solver, assumed);
-    for index in 0..solver.lines() {
-        if !is_derived(solver, given, index + 1) {
-            return false;
-        }
-    }
-    answer != Answer::Spent && (answer == Answer::Sat) == can_be_met(8, given, assumed)
+    are_derived(solver, given)
+        && answer != Answer::Spent
+        && (answer == Answer::Sat) == can_be_met(8, given, assumed)
 }
 
 #[test]

@@ -9,25 +9,25 @@ abbrev callees_of : List Site → List ℕ
 callees_of ss = map (λ (s : Site). s.callee) ss
 
 pub new-requires-clause-count : goal.new-requires-clause-count
-new-requires-clause-count c = omega (arith, few_members c.args.graph.now c.graph_law.ensures c.args.members.now c.requires.ascend c.requires.bodies)
+new-requires-clause-count c = omega (arith, few_members c.args.graph.now c.law.ensures.graph c.args.members.now c.requires.ascend c.requires.bodies)
 
 pub make_faces-requires-clause-fits : goal.make_faces-requires-clause-fits
 make_faces-requires-clause-fits c =
-    omega (arith, few_members c.args.graph.now c.graph_law.ensures c.args.members.now c.requires.ascend c.requires.bodies, fields_small c.args.graph.now c.graph_law.ensures, c.from.ensures, (c.count-pointers.ensures.count ∙ ap field_count c.requires.fields))
+    omega (arith, few_members c.args.graph.now c.law.ensures.graph c.args.members.now c.requires.ascend c.requires.bodies, fields_small c.args.graph.now c.law.ensures.graph, c.from.ensures, (c.count-pointers.ensures.count ∙ ap field_count c.requires.fields))
 
 pub make_faces-requires-2-clause-procs : goal.make_faces-requires-2-clause-procs
 make_faces-requires-2-clause-procs c =
-    callees_known c.args.graph.now c.graph_law.ensures c.args.members.now c.requires.ascend c.requires.bodies _ _ c.in_ok-faces.faces.end _
+    callees_known c.args.graph.now c.law.ensures.graph c.args.members.now c.requires.ascend c.requires.bodies _ _ c.in_ok-faces.faces.end _
     (c.count-pointers.ensures.count ∙ ap field_count c.requires.fields) c.from.ensures c.in_ok-faces.ensures.end (c.deref.ensures.value ∙ c.in_ok-callees.ensures ∙ ap callees_of c.in_ok-sites.ensures)
 
 pub make_faces-requires-2-clause-fits : goal.make_faces-requires-2-clause-fits
 make_faces-requires-2-clause-fits c =
-    middle_fits c.args.graph.now c.graph_law.ensures c.args.members.now c.requires.ascend c.requires.bodies _ _ c.in_ok-faces.faces.end _
+    middle_fits c.args.graph.now c.law.ensures.graph c.args.members.now c.requires.ascend c.requires.bodies _ _ c.in_ok-faces.faces.end _
     (c.count-pointers.ensures.count ∙ ap field_count c.requires.fields) c.from.ensures c.in_ok-faces.ensures.end (c.deref.ensures.value ∙ c.in_ok-callees.ensures ∙ ap callees_of c.in_ok-sites.ensures)
 
 pub make_rows-requires-clause-fits : goal.make_rows-requires-clause-fits
 make_rows-requires-clause-fits c =
-    later_fits c.args.graph.now c.graph_law.ensures c.args.members.now c.requires.ascend c.requires.bodies _ _ c.in_ok-faces.faces.end _
+    later_fits c.args.graph.now c.law.ensures.graph c.args.members.now c.requires.ascend c.requires.bodies _ _ c.in_ok-faces.faces.end _
     (c.count-pointers.ensures.count ∙ ap field_count c.requires.fields) c.from.ensures c.in_ok-faces.ensures.end (c.deref.ensures.value ∙ c.in_ok-callees.ensures ∙ ap callees_of c.in_ok-sites.ensures)
     c.in_ok-called.called.end c.in_ok-called.ensures.end
 

@@ -1,4 +1,4 @@
-use Rattle.std.proofs.Common.{◌≡◌, ◌+◌, ◌≤◌, ℕ, take, refl, ap, arith, rules}
+use Rattle.std.proofs.Common.{◌≤◌, ℕ, take, refl, ap, arith, rules}
 use Rattle.flow_graph.specs.FlowGraph.{type_in}
 use Rattle.flow_graph.specs.Fits.{pointer_count}
 use Rattle.owner_vars.specs.declared.field_table.Member.{Member}

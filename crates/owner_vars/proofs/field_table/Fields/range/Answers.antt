@@ -7,7 +7,7 @@ use Rattle.owner_vars.proofs.field_table.Fields.range.Goals as goal
 
 pub returns : goal.returns
 returns c =
-    let k = range_known _ _ _ _ _ c.self.view_is c.self.invariant c.args.structure c.index-row.result.now c.requires c.index-row.ensures in
+    let k = range_known _ _ _ _ _ _ c.self.view_is c.self.invariant c.args.structure c.index-row.result.now c.requires c.index-row.ensures in
     let e = ap (λ (q : StructRow). q.range) c.row.view_is in
     record {
       range = e ∙ k.0;

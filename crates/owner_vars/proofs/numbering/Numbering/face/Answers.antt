@@ -1,6 +1,6 @@
 use Rattle.std.proofs.Common.{◌∙◌, sym, arith}
 use Rattle.owner_vars.proofs.IndexLemmas.{from_is_in}
-use Rattle.owner_vars.proofs.TableRows.{no_member_face, at_within, face_known_room, face_known}
+use Rattle.owner_vars.proofs.TableRows.{no_member_face, face_known_room, face_known}
 use Rattle.owner_vars.proofs.numbering.Numbering.face.Goals as goal
 
 pub returns-then-not-has : goal.returns-then-not-has

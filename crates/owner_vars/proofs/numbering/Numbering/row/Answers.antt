@@ -1,4 +1,4 @@
-use Rattle.std.proofs.Common.{◌≡◌, ◌+◌, ◌*◌, ◌<◌, ◌≤◌, ◌∙◌, ℕ, sym, ap, subst, arith}
+use Rattle.std.proofs.Common.{◌≡◌, ◌+◌, ◌*◌, ◌<◌, ◌≤◌, ◌∙◌, sym, ap, subst, arith}
 use Rattle.owner_vars.specs.Rows.{is_at}
 use Rattle.owner_vars.specs.Tables.{Rows}
 use Rattle.owner_vars.proofs.IndexLemmas.{from_is_in}

@@ -1,6 +1,6 @@
 use Rattle.std.proofs.Common.{◌≡◌, ◌+◌, ◌<◌, ◌∙◌, List, ℕ, Some, length, get_or, ap, subst, sym, arith}
 use Rattle.owner_vars.proofs.IndexLemmas.{from_is_in}
-use Rattle.owner_vars.proofs.SiteLemmas.{no_member, row_within, no_place, there, nothing, number_small}
+use Rattle.owner_vars.proofs.SiteLemmas.{no_member, no_place, there, nothing, number_small}
 use Rattle.owner_vars.proofs.site_table.Sites.at.Goals as goal
 
 pub returns-then-not-has : goal.returns-then-not-has
