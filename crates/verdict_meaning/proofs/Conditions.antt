@@ -376,7 +376,7 @@ module _ (v : Sight) (s : Setting) where
 
 -- Names that are one
 
-same_name : (m n : ConstraintName) → is_name m n ≡ true → m ≡ n
+pub same_name : (m n : ConstraintName) → is_name m n ≡ true → m ≡ n
 same_name m n e =
     let a = and_parts (eqb m.proc n.proc) _ e in
     let b = and_parts (eqb m.place n.place) _ a.1 in
@@ -393,7 +393,7 @@ same_name m n e =
     ∙ ap (λ (k : ℕ). let x : ConstraintName = record { proc = n.proc; place = n.place; edge = n.edge; rule = n.rule; slot = n.slot; field = k; other = m.other } in x) (eqb-true m.field n.field g.0)
     ∙ ap (λ (k : ℕ). let x : ConstraintName = record { proc = n.proc; place = n.place; edge = n.edge; rule = n.rule; slot = n.slot; field = n.field; other = k } in x) (eqb-true m.other n.other h.0)
 
-itself : (n : ConstraintName) → is_name n n ≡ true
+pub itself : (n : ConstraintName) → is_name n n ≡ true
 itself n = rw (eq-eqb n.proc n.proc refl, eq-eqb n.place n.place refl, eq-eqb n.edge n.edge refl, eq-eqb n.rule n.rule refl, eq-eqb n.slot n.slot refl, eq-eqb n.field n.field refl, eq-eqb n.other n.other refl) refl
 
 -- All of a call group

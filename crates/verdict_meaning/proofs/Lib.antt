@@ -8,6 +8,7 @@ mod Used
 mod Propagated
 pub mod Faults
 mod Faultless
+mod FaultlessLines
 pub mod Numbers
 pub mod Programs
 pub mod Conditions

@@ -3,6 +3,7 @@
 use Rattle.std.specs.Prelude.{◌≡◌, ℕ, ◌≤◌, Bool, true, List, Some}
 use Rattle.std.specs.List.{Contains}
 use Rattle.zo_core.specs.Truth.{clause_true}
+use Rattle.zo_core.specs.Order.{Ascends}
 use Rattle.conflict_proof.specs.declared.names.ConstraintName.{ConstraintName}
 use Rattle.conflict_proof.specs.declared.derivation.Line.{Line}
 use Rattle.conflict_proof.specs.declared.faults.Reason.{Reason}
@@ -101,3 +102,9 @@ abbrev pub FaultyIsNotValid : Type 0
 FaultyIsNotValid =
     (s : System) (U : ConstraintName → Bool) (lines : List Line) (why : Reason) (line : ℕ)
     → derivation.HasFault s U lines why line → IsValidIn s U lines → Refutes s lines → ⊥
+
+-- A derivation that has none is valid, and refutes, where each of its lines is a clause.
+abbrev pub FaultlessIsValid : Type 0
+FaultlessIsValid =
+    (s : System) (U : ConstraintName → Bool) (lines : List Line) → ((n : ℕ) (line : Line) → line_at lines n ≡ Some line → Ascends 0 line.lits)
+    → ((why : Reason) (line : ℕ) → derivation.HasFault s U lines why line → ⊥) → IsValidIn s U lines × Refutes s lines

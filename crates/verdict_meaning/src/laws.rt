@@ -3,7 +3,7 @@ ghost use Rattle.flow_graph.specs.FlowGraph.{FlowGraph};
 ghost use Rattle.path_facts.specs.Tables.{FactTables};
 ghost use Rattle.verdict_meaning.specs.Programs.{NamesAreApart, SystemIsOfGraph, GoodInWhole, ValidInWhole};
 ghost use Rattle.verdict_meaning.specs.Selected.{SelectedAreValid};
-ghost use Rattle.verdict_meaning.specs.Laws.{LinesAreTrue, LocalLinesAreTrue, GoodIsSatisfiable, UsedAreUnsatisfiable, RefutedIsUnsatisfiable, AcceptedIsNotRefuted, PlainIsSatisfiable, UnitRefutedIsUnsatisfiable, FewerAreSatisfiable, MoreAreValid, CostIsBounded, BudgetSuffices, UsedNamesAreOne, FaultyIsNotGood, FaultlessIsGood, FaultyIsNotValid};
+ghost use Rattle.verdict_meaning.specs.Laws.{LinesAreTrue, LocalLinesAreTrue, GoodIsSatisfiable, UsedAreUnsatisfiable, RefutedIsUnsatisfiable, AcceptedIsNotRefuted, PlainIsSatisfiable, UnitRefutedIsUnsatisfiable, FewerAreSatisfiable, MoreAreValid, CostIsBounded, BudgetSuffices, UsedNamesAreOne, FaultyIsNotGood, FaultlessIsGood, FaultyIsNotValid, FaultlessIsValid};
 
 /// Each line of a valid derivation is true under every assignment that its group admits where the constraints on which it
 /// stands count.
@@ -90,6 +90,11 @@ pub fn faultless_is_good()
 /// A derivation that has a fault is not valid, or does not refute.
 pub fn faulty_is_not_valid()
     ensures { FaultyIsNotValid }
+{}
+
+/// A derivation of clauses that has none is valid, and refutes.
+pub fn faultless_is_valid()
+    ensures { FaultlessIsValid }
 {}
 
 /// Each constraint of a call group is the one of its name.

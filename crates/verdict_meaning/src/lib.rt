@@ -14,8 +14,8 @@ mod laws;
 pub use callee::Callee;
 pub use laws::{
     accepted_is_not_refuted, budget_suffices, cost_is_bounded, faultless_is_good,
-    faulty_is_not_good, faulty_is_not_valid, fewer_are_satisfiable, good_is_satisfiable,
-    lines_are_true, local_lines_are_true, more_are_valid, names_are_apart, plain_is_satisfiable,
-    refuted_is_unsatisfiable, selected_are_valid, system_is_of_graph,
+    faultless_is_valid, faulty_is_not_good, faulty_is_not_valid, fewer_are_satisfiable,
+    good_is_satisfiable, lines_are_true, local_lines_are_true, more_are_valid, names_are_apart,
+    plain_is_satisfiable, refuted_is_unsatisfiable, selected_are_valid, system_is_of_graph,
     unit_refuted_is_unsatisfiable, used_are_unsatisfiable, used_names_are_one, valid_in_whole,
 };
