@@ -1,0 +1,9 @@
+pub mod ListLemmas
+pub mod ClauseLemmas
+pub mod RestLemmas
+pub mod MarkLemmas
+pub mod LineLemmas
+pub mod SpellLemmas
+pub mod EndLemmas
+pub mod StepLemmas
+pub mod BoundLemmas

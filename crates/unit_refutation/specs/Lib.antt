@@ -1,0 +1,4 @@
+pub mod Trails
+pub mod Marks
+pub mod Lines
+pub mod Refutations
