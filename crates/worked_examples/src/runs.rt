@@ -38,7 +38,7 @@ impl Machine {
         step(alloc, &self.graph, &mut self.state, choice)
     }
 
-    fn frames(&self) -> usize {
+    pub fn frames(&self) -> usize {
         self.state.frames.items.len()
     }
 }

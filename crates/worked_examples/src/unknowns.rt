@@ -578,9 +578,11 @@ fn check_fields(rt: &impl Abort, alloc: Global) -> Result<(), Fail> {
     let graph = graph_of(alloc, STRUCTS.as_bytes())?;
     let found = fields(alloc, &graph)?;
     assert_eq!(rt; found.count(), 3);
-    for (field, owner, target) in [(1, 0, None), (2, 0, None), (3, 1, Some(0))] {
+    let rows = [(1, 0, 1, None), (2, 0, 2, None), (3, 1, 0, Some(0))];
+    for (field, owner, member, target) in rows {
         assert!(rt; 0 < field && field <= found.count());
         assert_eq!(rt; found.owner(field), owner);
+        assert_eq!(rt; found.member(field), member);
         assert_eq!(rt; found.target(field), target);
     }
     Ok(())
