@@ -1,3 +1,7 @@
 pub mod PivotLemmas
 pub mod CarryLemmas
 pub mod LineLemmas
+pub mod GroupLemmas
+pub mod CallLemmas
+pub mod NameLemmas
+pub mod NumberLemmas

@@ -1,1 +1,3 @@
 pub mod Checking
+pub mod Programs
+pub mod Sites

@@ -14,7 +14,7 @@ use zo_core::{Clause, Var};
 /// The constraints of a program, group by group, and which of them count.
 ///
 /// Groups are numbered from 0, and the root comes last. No call but `clauses` takes memory.
-pub trait Constraints {
+pub(crate) trait Constraints {
     ghost system: { Self → System };
 
     // The names that count, besides those of the rule that is always in force.
@@ -49,9 +49,9 @@ pub trait Constraints {
         requires { group ≤ root (system self.now) }
         ensures { result ≡ slice_get (callees (system self.now) group) site };
 
-    /// What stands at a site for an unknown of the called group; none for an unknown that is neither a field's nor of the
-    /// called procedure's interface.
-    fn carried(&self, group: u32, site: u32, var: Var) -> Option<Var>
+    /// The number of what stands at a site for an unknown of the called group; none for an unknown that is neither a field's
+    /// nor of the called procedure's interface.
+    fn carried(&self, group: u32, site: u32, var: Var) -> Option<u32>
         requires group { group ≤ root (system self.now) }
         requires site { site < length (callees (system self.now) group) }
         ensures { result ≡ carried_number (at_site (system self.now) group site) var };

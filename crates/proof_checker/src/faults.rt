@@ -16,7 +16,7 @@ use verdict_meaning::{faulty_is_not_valid, used_are_unsatisfiable};
 /// # Errors
 ///
 /// Invalid exactly where it is not valid or does not refute; Memory at any time.
-pub fn check<C: Constraints>(
+pub(crate) fn check<C: Constraints>(
     alloc: Global,
     constraints: &C,
     derivation: &Derivation,

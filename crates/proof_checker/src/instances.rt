@@ -42,5 +42,5 @@ fn is_carried<C: Constraints>(constraints: &C, group: u32, site: u32, from: Lit,
     let Some(to) = constraints.carried(group, site, from.var()) else {
         return false;
     };
-    to == lit.var()
+    to == lit.var().number()
 }
