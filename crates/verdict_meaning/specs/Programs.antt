@@ -17,6 +17,7 @@ use Rattle.transfer_rules.specs.Rules.{constraints, body_of}
 use Rattle.transfer_rules.specs.declared.scope.Scope.{Scope}
 use Rattle.transfer_rules.specs.Names.{names, condition_in, clauses_of_name, in_scope}
 use Rattle.transfer_rules.specs.Holds.{ProcHolds}
+use Rattle.transfer_rules.specs.Programs.{Parts}
 use Rattle.verdict_meaning.specs.declared.callee.Callee.{Callee}
 use Rattle.verdict_meaning.specs.Systems.{System, root, members, first, callee, callees, phi_numbers, pi_numbers, sigma_numbers, count}
 use Rattle.verdict_meaning.specs.Solutions.{IsLocal, all_names}
@@ -52,6 +53,10 @@ clauses_found (Some cs) = cs
 -- the system of a program, of its graph, facts and call groups: the names and the clauses of the rules
 abbrev pub system_of : FlowGraph → FactTables → List (List ℕ) → System
 system_of g facts groups = system_with g groups (names g facts) (λ members n. clauses_found (clauses_of_name g facts members n))
+
+-- the system of a program whose parts are these
+abbrev pub system_in : Parts → System
+system_in p = system_of p.graph p.facts p.groups
 
 -- What is known of the system of a program
 
