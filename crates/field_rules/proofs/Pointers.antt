@@ -115,13 +115,16 @@ middle true true c h = refl
 middle true false c h = h
 middle false b c h = cc
 
+last_other : (v : Sight) (p y s n : ℕ) → n < v.slots → (b : Bool) → (b ≡ true → leads_to (v.structure n) s ≡ true) → All (PointsTo v s) (when b (n ∷ []))
+last_other v p y s n lt true h = All-cons (PointsTo v s) n [] (lt, led (v.structure n) s (h refl)) (All-nil (PointsTo v s))
+last_other v p y s n lt false h = All-nil (PointsTo v s)
+
+pub other_is_slot : (v : Sight) (p y s z : ℕ) → z < v.slots → All (λ z. (z < v.slots) × (v.structure z ≡ Some s)) (other v p y s z)
+other_is_slot v p y s z lt = last_other v p y s z lt (is_other v p y s z) (middle (nat_lt y z) (leads_to (v.structure z) s) (not (v.fresh p z)))
+
 pub others_are_slots : (v : Sight) (p y s : ℕ) → All (λ z. (z < v.slots) × (v.structure z ≡ Some s)) (others v p y s)
 others_are_slots v p y s = up v.slots (omega arith)
   where
-    last : (n : ℕ) → suc n ≤ v.slots → (b : Bool) → (b ≡ true → leads_to (v.structure n) s ≡ true) → All (PointsTo v s) (when b (n ∷ []))
-    last n le true h = All-cons (PointsTo v s) n [] (omega arith, led (v.structure n) s (h refl)) (All-nil (PointsTo v s))
-    last n le false h = All-nil (PointsTo v s)
-
     up : (n : ℕ) → n ≤ v.slots → All (PointsTo v s) (gather n (other v p y s))
     up zero le = All-nil (PointsTo v s)
-    up (suc n) le = All-append (PointsTo v s) (gather n (other v p y s)) (other v p y s n) (up n (omega arith)) (last n le (is_other v p y s n) (middle (nat_lt y n) (leads_to (v.structure n) s) (not (v.fresh p n))))
+    up (suc n) le = All-append (PointsTo v s) (gather n (other v p y s)) (other v p y s n) (up n (omega arith)) (other_is_slot v p y s n (omega arith))

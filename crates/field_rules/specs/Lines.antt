@@ -110,5 +110,13 @@ base_lines v p y (Some s) = over_range (v.fields_of s) (base_line v p y (others 
 abbrev pub one_base_lines : Sight → ℕ → ℕ → List FieldLine
 one_base_lines v p y = when (not (v.fresh p y)) (base_lines v p y (v.structure y))
 
+-- the same of a slot and one other slot alone
+abbrev pub pair_of : Sight → ℕ → ℕ → ℕ → Option ℕ → List FieldLine
+pair_of v p y z None = []
+pair_of v p y z (Some s) = over_range (v.fields_of s) (base_line v p y (other v p y s z))
+
+abbrev pub pair_lines : Sight → ℕ → ℕ → ℕ → List FieldLine
+pair_lines v p y z = when (not (v.fresh p y)) (pair_of v p y z (v.structure y))
+
 abbrev pub place_lines : Sight → ℕ → List FieldLine
 place_lines v p = gather v.slots (bound_lines v p) ++ gather v.slots (one_base_lines v p)

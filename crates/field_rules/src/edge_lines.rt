@@ -5,7 +5,7 @@ ghost use Rattle.field_rules.specs.Sight.{HasSlot, HasPointer, HasOmega, IsField
 ghost use Rattle.field_rules.specs.Lines.{is_arg, load_lines, store_open_lines, store_lines, free_field_lines, free_field_line, phis_to, sigma_to, sigmas_to, argument_line, argument_lines, sealed_line, sealed_lines, call_lines, edge_lines};
 
 use crate::edges::{CallArg, FieldEdge, FieldLine};
-use crate::lists::{FieldLines, Sigmas, Vars};
+use crate::lists::{CallArgs, FieldLines, Sigmas, Vars};
 use crate::rules::{CallClosed, FieldRule, FreeField, Load, Store, StoreOpen};
 use crate::view::View;
 use c_tree::Memory;
@@ -161,6 +161,24 @@ fn push_call<V: View>(
         push_closed(alloc, out, view, from, args, *y)?;
     }
     Ok(())
+}
+
+/// The rules on one slot at a call with these pointer arguments, in order of the fields. The place, the slot and the
+/// arguments exist. Its one refusal is want of memory.
+pub fn call_rules<V: View>(
+    alloc: Global,
+    view: &V,
+    args: &CallArgs,
+    from: u32,
+    slot: u32,
+) -> Result<FieldLines, Memory>
+    requires call { CallExists (V.sight view.now) from args.now }
+    requires slot { slot < (V.sight view.now).slots }
+    ensures { IfOk result (λ ls. ls ≡ call_lines (V.sight view.now) args.now from slot) }
+{
+    let mut items = Vec::new(alloc);
+    push_closed(alloc, &mut items, view, from, &args.items, slot)?;
+    Ok(FieldLines { items })
 }
 
 /// Adds the rules on one slot at a call.

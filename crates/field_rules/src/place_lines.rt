@@ -2,7 +2,7 @@ ghost use Rattle.std.specs.Prelude.{◌≡◌, ◌<◌, ◌≤◌, ◌++◌, ◌
 ghost use Rattle.std.specs.List.{All, flat_map};
 ghost use Rattle.field_rules.specs.Lists.{gather, when};
 ghost use Rattle.field_rules.specs.Sight.{HasOmega, PlaceExists, pointers, over_range};
-ghost use Rattle.field_rules.specs.Lines.{bound_lines, is_other, other, others, one_base_line, base_line, base_lines, one_base_lines, place_lines};
+ghost use Rattle.field_rules.specs.Lines.{bound_lines, is_other, other, others, one_base_line, base_line, base_lines, one_base_lines, pair_lines, place_lines};
 
 use crate::edge_lines::leads_to;
 use crate::edges::FieldLine;
@@ -25,6 +25,86 @@ pub fn place_rules<V: View>(alloc: Global, view: &V, place: u32) -> Result<Field
     }
     push_one_bases(alloc, &mut items, view, place)?;
     Ok(FieldLines { items })
+}
+
+/// The bounds of the fields of one slot at a place, in order of the fields. The place and the slot exist. Its one refusal is
+/// want of memory.
+pub fn bound_rules<V: View>(
+    alloc: Global,
+    view: &V,
+    place: u32,
+    slot: u32,
+) -> Result<FieldLines, Memory>
+    requires place { PlaceExists (V.sight view.now) place }
+    requires slot { slot < (V.sight view.now).slots }
+    ensures { IfOk result (λ ls. ls ≡ bound_lines (V.sight view.now) place slot) }
+{
+    let mut items = Vec::new(alloc);
+    push_bounds(&mut items, view, place, slot)?;
+    Ok(FieldLines { items })
+}
+
+/// That a field is not open through a slot and another at a place, in order of the fields: nothing where the other is not a
+/// later slot that points to the same struct, or where one of the two is Fresh. The place and the slots exist. Its one
+/// refusal is want of memory.
+pub fn one_base_rules<V: View>(
+    alloc: Global,
+    view: &V,
+    place: u32,
+    slot: u32,
+    other: u32,
+) -> Result<FieldLines, Memory>
+    requires place { PlaceExists (V.sight view.now) place }
+    requires slot { slot < (V.sight view.now).slots }
+    requires other { other < (V.sight view.now).slots }
+    ensures { IfOk result (λ ls. ls ≡ pair_lines (V.sight view.now) place slot other) }
+{
+    let mut items = Vec::new(alloc);
+    push_pair(alloc, &mut items, view, place, slot, other)?;
+    Ok(FieldLines { items })
+}
+
+/// Adds that a field is not open through a slot and another.
+fn push_pair<V: View>(
+    alloc: Global,
+    out: &mut Vec<FieldLine>,
+    view: &V,
+    place: u32,
+    y: u32,
+    z: u32,
+) -> Result<(), Memory>
+    requires place { PlaceExists (V.sight view.now) place }
+    requires slot { y < (V.sight view.now).slots }
+    requires other { z < (V.sight view.now).slots }
+    ensures { OnOk result (out.new.items ≡ out.old.items ++ pair_lines (V.sight view.now) place y z) }
+{
+    if view.fresh(place, y) {
+        return Ok(());
+    }
+    let Some(structure) = view.structure(y) else {
+        return Ok(());
+    };
+    let others = other(alloc, view, place, y, structure, z)?;
+    push_fields(out, view, place, y, structure, &others)
+}
+
+/// The slot alone, where it is a later one that points to a struct and is not Fresh.
+fn other<V: View>(
+    alloc: Global,
+    view: &V,
+    place: u32,
+    y: u32,
+    structure: u32,
+    z: u32,
+) -> Result<Vec<u32>, Memory>
+    requires place { PlaceExists (V.sight view.now) place }
+    requires slot { z < (V.sight view.now).slots }
+    ensures exact { IfOk result (λ zs. zs.items ≡ other (V.sight view.now) place y structure z) }
+    ensures there { IfOk result (λ zs. All (λ z. (z < (V.sight view.now).slots) × ((V.sight view.now).structure z ≡ Some structure)) zs.items) }
+{
+    let mut out = Vec::new(alloc);
+    push_other(&mut out, view, place, y, structure, z)?;
+    Ok(out)
 }
 
 /// Adds the bounds of the fields of one slot.
@@ -110,13 +190,32 @@ fn push_bases<V: View>(
     requires structure { (V.sight view.now).structure y ≡ Some structure }
     ensures { OnOk result (out.new.items ≡ out.old.items ++ base_lines (V.sight view.now) place y (Some structure)) }
 {
-    let range = view.fields_of(structure);
-    if range.count == 0 {
+    if view.fields_of(structure).count == 0 {
         return Ok(());
     }
     let others = others(alloc, view, place, y, structure)?;
+    push_fields(out, view, place, y, structure, &others)
+}
+
+/// Adds that each field of a struct is not open through a slot and one of others.
+fn push_fields<V: View>(
+    out: &mut Vec<FieldLine>,
+    view: &V,
+    place: u32,
+    y: u32,
+    structure: u32,
+    others: &[u32],
+) -> Result<(), Memory>
+    requires place { PlaceExists (V.sight view.now) place }
+    requires slot { y < (V.sight view.now).slots }
+    requires structure { (V.sight view.now).structure y ≡ Some structure }
+    requires others { All (λ z. (z < (V.sight view.now).slots) × ((V.sight view.now).structure z ≡ Some structure)) others.now }
+    ensures { OnOk result (out.new.items
+        ≡ out.old.items ++ over_range ((V.sight view.now).fields_of structure) (base_line (V.sight view.now) place y others.now)) }
+{
+    let range = view.fields_of(structure);
     for j in 0..range.count {
-        push_base(out, view, place, y, range.first + j, &others)?;
+        push_base(out, view, place, y, range.first + j, others)?;
     }
     Ok(())
 }

@@ -15,3 +15,11 @@ mod Targets
 mod Whole
 mod Named
 mod Pieces
+mod Listed
+mod Alone
+mod Narrow
+mod Among
+mod Ascent
+mod GroupAscent
+mod ScopeLaws
+mod Spread

@@ -1,8 +1,7 @@
 -- Where the clauses of a name are found.
-use Rattle.std.proofs.Common.{◌≡◌, ℕ, ◌<◌, ◌≤◌, Bool, true, false, cond, List, Option, Some, None, refl, sym, ap, ◌∙◌, arith}
+use Rattle.std.proofs.Common.{◌≡◌, ℕ, ◌<◌, ◌≤◌, Bool, true, false, cond, List, Option, None, refl, ap, ◌∙◌}
 use Rattle.std.proofs.lemmas.Bool.{le-ltb, lt-ltb}
 use Rattle.std.specs.Prelude.{option_map, nat_lt}
-use Rattle.zo_core.specs.Literals.{Literal}
 use Rattle.flow_graph.specs.FlowGraph.{FlowGraph}
 use Rattle.flow_graph.specs.Fits.{is_in}
 use Rattle.path_facts.specs.Tables.{FactTables}

@@ -2,7 +2,6 @@
 use Rattle.std.proofs.Common.{◌≡◌, ℕ, zero, suc, ◌+◌, ◌-◌, ◌<◌, ◌≤◌, List, [], ◌∷◌, length, take, drop, get_or, refl, sym, ap, ◌∙◌, arith}
 use Rattle.zo_core.specs.Literals.{Literal}
 use Rattle.conflict_proof.specs.declared.names.ConstraintName.{ConstraintName}
-use Rattle.transfer_rules.specs.Names.{NamedClause}
 use Rattle.transfer_rules.specs.Table.{cut, start, AreEnds, named, rows, IsTable, no_clause}
 
 drop_nil : {X : Type 0} (n : ℕ) → drop {A = X} n [] ≡ []

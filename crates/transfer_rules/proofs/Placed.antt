@@ -24,7 +24,7 @@ use Rattle.transfer_rules.proofs.EachLemmas.{each-append, each-gather, each-when
 use Rattle.transfer_rules.proofs.Lookup.{one_proc, one_place, lookup-gather, lookup-flat}
 
 module _ (v : Sight) (s : Setting) where
-  abbrev At : ℕ → Constraint → Type 0
+  abbrev pub At : ℕ → Constraint → Type 0
   At p c = (c.name.proc ≡ s.proc) × (c.name.place ≡ p)
 
   module _ (p : ℕ) where

@@ -1,17 +1,16 @@
 -- A member of a group of a program, as the rules see it.
-use Rattle.std.proofs.Common.{◌≡◌, ℕ, ◌<◌, ◌≤◌, ◌^◌, true, List, [], length, take, refl, sym, ap, subst, ◌∙◌, arith}
+use Rattle.std.proofs.Common.{◌≡◌, ℕ, ◌<◌, List, [], length, subst, arith}
 use Rattle.std.specs.List.{All, Contains}
 use Rattle.std.specs.List.Sorted.{IsStrictlyIncreasing}
-use Rattle.std.proofs.lemmas.List.{length-take}
 use Rattle.flow_graph.specs.FlowGraph.{FlowGraph, flow_of}
 use Rattle.flow_graph.specs.Fits.{IsFlowGraph}
 use Rattle.path_facts.specs.Tables.{FactTables, AreFactsOf, HasSlot}
-use Rattle.recursion_groups.specs.Grouping.{IsGroup, IsGrouping}
+use Rattle.recursion_groups.specs.Grouping.{IsGroup}
 use Rattle.owner_vars.specs.declared.site.Site.{Site}
 use Rattle.owner_vars.specs.Unknowns.{Unknown, unknowns, sites}
 use Rattle.owner_vars.specs.Fields.{structs_of}
 use Rattle.owner_vars.specs.Laws as laws
-use Rattle.transfer_rules.specs.Body.{Body, sight, setting}
+use Rattle.transfer_rules.specs.Body.{sight, setting}
 use Rattle.transfer_rules.specs.Bodies.{IsBodyOf}
 use Rattle.transfer_rules.specs.Exist.{EdgesExist}
 use Rattle.transfer_rules.specs.Programs.{Parts, IsProgram, AreTargets, group_at, pointer_slots}

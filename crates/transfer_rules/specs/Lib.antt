@@ -1,6 +1,7 @@
 pub mod Body
 pub mod Rules
 pub mod Exist
+pub mod Single
 pub mod Names
 pub mod Holds
 pub mod Table

@@ -1,6 +1,6 @@
 -- Names of constraints: their order, scopes of names, and the clauses of a name.
 use Rattle.std.specs.Prelude.{◌≡◌, ℕ, Bool, true, false, cond, not, ◌&&◌, ◌||◌, nat_eq, nat_lt, List, [], ◌∷◌, map, Option, Some, None, option_map}
-use Rattle.std.specs.List.{flat_map, list_any}
+use Rattle.std.specs.List.{All, flat_map, list_any}
 use Rattle.zo_core.specs.Literals.{Literal}
 use Rattle.zo_core.specs.Order.{kept_all}
 use Rattle.zo_core.specs.declared.forms.Form.{Form}
@@ -47,10 +47,6 @@ in_scope s n = has_name s.keep n || (comes_before s.after n && not (has_name s.w
 -- 21, Same, is always in force
 abbrev pub is_in_force : Scope → ConstraintName → Bool
 is_in_force s n = nat_eq n.rule 21 || in_scope s n
-
--- the scope of all names
-abbrev pub is_all : Scope → Type 0
-is_all s = (n : ConstraintName) → in_scope s n ≡ true
 
 -- What a constraint says
 
@@ -108,3 +104,16 @@ clauses_in s cs = flat_map (clauses_if s) cs
 
 abbrev pub group_clauses : FlowGraph → FactTables → List ℕ → Scope → List NamedClause
 group_clauses g ts members s = clauses_in s (constraints g ts members)
+
+-- What holds in a scope
+
+abbrev pub lits_of : List NamedClause → List (List Literal)
+lits_of cs = map (λ (c : NamedClause). c.lits) cs
+
+-- an assignment meets each constraint of a group whose name is in force
+abbrev pub NamesHold : FlowGraph → FactTables → List ℕ → Scope → (ℕ → Bool) → Type 0
+NamesHold g ts members s t = (n : ConstraintName) (c : Condition) → is_in_force s n ≡ true → condition_of_name g ts members n ≡ Some c → ConditionHolds c t
+
+-- all names of a group are in force
+abbrev pub AllInForce : FlowGraph → FactTables → List ℕ → Scope → Type 0
+AllInForce g ts members s = All (λ n. is_in_force s n ≡ true) (names g ts members)

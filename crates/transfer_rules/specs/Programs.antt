@@ -1,6 +1,5 @@
 -- A program: the parts that belong to one typed tree.
 use Rattle.std.specs.Prelude.{◌≡◌, ℕ, suc, ◌<◌, ◌≤◌, ⊤, List, [], ◌∷◌, ◌++◌, length, map, slice_index, slice_index_or}
-use Rattle.std.specs.List.{range_with_len}
 use Rattle.c_types.specs.declared.typed.Typed.{Typed}
 use Rattle.c_types.specs.declared.error.LimitKind.TheVariants as limit
 use Rattle.c_types.specs.Types.{is_pointer}

@@ -1,9 +1,9 @@
-ghost use Rattle.std.specs.Prelude.{◌≡◌, ◌++◌, ◌+◌, ◌<◌, ◌^◌, Some, [], ◌∷◌, true, length, OnOk, IfOk};
+ghost use Rattle.std.specs.Prelude.{◌≡◌, ◌++◌, ◌+◌, ◌<◌, ◌^◌, Some, [], ◌∷◌, true, length, OnOk, IfOk, cond, None};
 ghost use Rattle.std.specs.List.{All, flat_map};
 ghost use Rattle.field_rules.specs.Lists.{gather, when};
-ghost use Rattle.field_rules.specs.Sight.{HasSlot, HasPointer, HasOmega, over_fields};
+ghost use Rattle.field_rules.specs.Sight.{HasSlot, HasPointer, HasOmega, over_fields, EdgeExists};
 ghost use Rattle.field_rules.specs.Lines.{edge_lines};
-ghost use Rattle.transfer_rules.specs.Exist.{IsSight, WayExists};
+ghost use Rattle.transfer_rules.specs.Exist.{IsSight, WayExists, CallArgsExist};
 ghost use Rattle.transfer_rules.specs.Rules.{constraint, equation, of_line, of_lines, is_live, each_field, closed_at, nothing_at, target, copied, closed, made, text, freeing, freed, arg_form, call_arg_at, call_arg_of, call_args_rules, call_result, call_results, result_rules, action_rules, args_from, args, call_args};
 ghost use Rattle.field_rules.specs.declared.edges.FieldEdge.TheVariants as field_edge;
 
@@ -15,7 +15,7 @@ use conflict_proof::ConstraintName;
 use field_rules::{CallArg, CallArgs, FieldEdge, FieldLine, edge_rules};
 use flow_graph::Action;
 use std::alloc::Global;
-use zo_core::Form;
+use zo_core::{Form, Var};
 
 /// An edge: its number, where it starts and where it ends.
 #[derive(Clone, Copy)]
@@ -116,7 +116,7 @@ pub(crate) fn push_lines<S: Scene>(
 }
 
 /// Adds the rules on fields of an edge.
-fn push_fields<S: Scene>(
+pub(crate) fn push_fields<S: Scene>(
     alloc: Global,
     out: &mut Vec<Constraint>,
     scene: &S,
@@ -130,8 +130,6 @@ fn push_fields<S: Scene>(
     let lines = edge_rules(alloc, scene, edge, way.from, way.to)?;
     push_lines(out, scene, way, lines.items)
 }
-
-ghost use Rattle.field_rules.specs.Sight.{EdgeExists};
 
 /// Whether a slot is a pointer that is not Empty.
 pub(crate) fn is_live<S: Scene>(scene: &S, place: u32, slot: u32) -> bool
@@ -196,7 +194,7 @@ fn push_nothing<S: Scene>(
 }
 
 /// Adds Target.
-fn push_target<S: Scene>(
+pub(crate) fn push_target<S: Scene>(
     out: &mut Vec<Constraint>,
     scene: &S,
     way: Way,
@@ -213,7 +211,7 @@ fn push_target<S: Scene>(
 }
 
 /// Adds Copy and, where the source is live, Closed.
-fn push_copied<S: Scene>(
+pub(crate) fn push_copied<S: Scene>(
     out: &mut Vec<Constraint>,
     scene: &S,
     way: Way,
@@ -246,7 +244,7 @@ fn push_copied<S: Scene>(
 }
 
 /// Adds Free, FreeField and Freed.
-fn push_free<S: Scene>(
+pub(crate) fn push_free<S: Scene>(
     alloc: Global,
     out: &mut Vec<Constraint>,
     scene: &S,
@@ -279,7 +277,7 @@ fn push_free<S: Scene>(
 }
 
 /// Adds what an assigned pointer asks before and after an edge.
-fn push_assigned<S: Scene>(
+pub(crate) fn push_assigned<S: Scene>(
     out: &mut Vec<Constraint>,
     scene: &S,
     way: Way,
@@ -296,7 +294,7 @@ fn push_assigned<S: Scene>(
 }
 
 /// The pointer arguments of a call.
-fn args<S: Scene>(
+pub(crate) fn args<S: Scene>(
     alloc: Global,
     scene: &S,
     place: u32,
@@ -325,9 +323,6 @@ fn args<S: Scene>(
     Ok(out)
 }
 
-ghost use Rattle.std.specs.Prelude.{cond, None};
-ghost use Rattle.transfer_rules.specs.Exist.{CallArgsExist};
-
 /// What a call takes in a part of the interface; none where the called procedure is external.
 fn sigma<S: Scene>(scene: &S, place: u32, callee: u32, part: u32) -> Option<Var>
     requires place { place < (S.sight scene.now).places }
@@ -339,8 +334,6 @@ fn sigma<S: Scene>(scene: &S, place: u32, callee: u32, part: u32) -> Option<Var>
     }
     None
 }
-
-use zo_core::Var;
 
 /// Adds CallArg.
 fn push_args<S: Scene>(
@@ -361,7 +354,7 @@ fn push_args<S: Scene>(
 }
 
 /// Adds CallArg for the arguments of one slot.
-fn push_args_at<S: Scene>(
+pub(crate) fn push_args_at<S: Scene>(
     out: &mut Vec<Constraint>,
     scene: &S,
     way: Way,
@@ -416,7 +409,7 @@ fn arg_form(rho: Var, sigma: Option<Var>) -> Form
 }
 
 /// Adds CallResult.
-fn push_result<S: Scene>(
+pub(crate) fn push_result<S: Scene>(
     out: &mut Vec<Constraint>,
     scene: &S,
     way: Way,
@@ -443,7 +436,7 @@ fn push_result<S: Scene>(
 }
 
 /// The pointer arguments as rules on fields see them.
-fn call_args(alloc: Global, args: &[PassedArg]) -> Result<CallArgs, Memory>
+pub(crate) fn call_args(alloc: Global, args: &[PassedArg]) -> Result<CallArgs, Memory>
     ensures { IfOk result (λ us. us ≡ call_args args.now) }
 {
     let mut items = Vec::new(alloc);
@@ -545,7 +538,12 @@ pub(crate) fn push_action<S: Scene>(
 }
 
 /// Adds Target and Text.
-fn push_text<S: Scene>(out: &mut Vec<Constraint>, scene: &S, way: Way, x: u32) -> Result<(), Memory>
+pub(crate) fn push_text<S: Scene>(
+    out: &mut Vec<Constraint>,
+    scene: &S,
+    way: Way,
+    x: u32,
+) -> Result<(), Memory>
     requires from { way.from < (S.sight scene.now).places }
     requires slot { HasPointer (S.sight scene.now) way.to x }
     ensures { OnOk result (out.new.items
@@ -563,7 +561,12 @@ fn push_text<S: Scene>(out: &mut Vec<Constraint>, scene: &S, way: Way, x: u32) -
 }
 
 /// Adds Target and New.
-fn push_made<S: Scene>(out: &mut Vec<Constraint>, scene: &S, way: Way, x: u32) -> Result<(), Memory>
+pub(crate) fn push_made<S: Scene>(
+    out: &mut Vec<Constraint>,
+    scene: &S,
+    way: Way,
+    x: u32,
+) -> Result<(), Memory>
     requires from { way.from < (S.sight scene.now).places }
     requires slot { HasPointer (S.sight scene.now) way.to x }
     ensures { OnOk result (out.new.items

@@ -4,8 +4,8 @@ ghost use Rattle.transfer_rules.specs.Names.{condition_clauses, condition_in};
 ghost use Rattle.transfer_rules.specs.Rules.{constraints_at};
 ghost use Rattle.transfer_rules.specs.declared.constraint.Constraint.{Constraint as Plain};
 
+use crate::candidates::push_named;
 use crate::constraint::Constraint;
-use crate::place::push_constraints;
 use crate::scene::Scene;
 use crate::scope::is_name;
 use c_tree::Memory;
@@ -26,7 +26,24 @@ fn find(found: &[Constraint], name: &ConstraintName) -> Option<usize>
     None
 }
 
-/// The clauses of the constraint of this name, which is looked for among those of its place. None where there is none.
+/// The clauses of the constraint of this name among these. None where there is none.
+fn clauses_among(
+    alloc: Global,
+    found: &[Constraint],
+    name: &ConstraintName,
+) -> Result<Option<Vec<Clause>>, Memory>
+    ensures { IfOk result (λ o. MatchOption o
+        (option_map condition_clauses (condition_in found.now name.now) ≡ None)
+        (λ cs. option_map condition_clauses (condition_in found.now name.now) ≡ Some cs.items)) }
+{
+    let Some(i) = find(found, name) else {
+        return Ok(None);
+    };
+    let clauses = found[i].condition.clauses(alloc)?;
+    Ok(Some(clauses))
+}
+
+/// The clauses of the constraint of this name, which is looked for among those that can have it. None where there is none.
 pub(crate) fn clauses_at<S: Scene>(
     alloc: Global,
     scene: &S,
@@ -38,10 +55,6 @@ pub(crate) fn clauses_at<S: Scene>(
         (λ cs. option_map condition_clauses (condition_in (constraints_at (S.sight scene.now) (S.setting scene.now) name.now.place) name.now) ≡ Some cs.items)) }
 {
     let mut found = Vec::new(alloc);
-    push_constraints(alloc, &mut found, scene, name.place)?;
-    let Some(i) = find(&found, name) else {
-        return Ok(None);
-    };
-    let clauses = found[i].condition.clauses(alloc)?;
-    Ok(Some(clauses))
+    push_named(alloc, &mut found, scene, name)?;
+    clauses_among(alloc, &found, name)
 }

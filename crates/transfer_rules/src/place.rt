@@ -3,7 +3,7 @@ ghost use Rattle.field_rules.specs.Lists.{gather, when};
 ghost use Rattle.field_rules.specs.Sight.{HasSlot};
 ghost use Rattle.field_rules.specs.Lines.{place_lines};
 ghost use Rattle.transfer_rules.specs.Exist.{IsSight, WayExists, EdgesExist};
-ghost use Rattle.transfer_rules.specs.Rules.{entry_slot, entry, is_ret, exit_ret, exit_own, exit_closed, exit, of_lines, place_rules, constraints_at};
+ghost use Rattle.transfer_rules.specs.Rules.{entry_slot, entry, is_ret, exit_ret, exit_own, exit_closed, exit, of_lines, place_rules, constraints_at, edge_rules, more_edges, rules_with};
 
 use crate::action::{About, Way, is_live, push_action, push_closed, push_form, push_lines};
 use crate::constraint::Constraint;
@@ -16,7 +16,7 @@ use std::alloc::Global;
 use zo_core::Form;
 
 /// What constraints of a place are named by.
-fn at(place: u32) -> Way
+pub(crate) fn at(place: u32) -> Way
     ensures { result ≡ record { number = 0; from = place; to = place } }
 {
     Way {
@@ -27,7 +27,7 @@ fn at(place: u32) -> Way
 }
 
 /// Adds Entry for a parameter.
-fn push_param<S: Scene>(
+pub(crate) fn push_param<S: Scene>(
     out: &mut Vec<Constraint>,
     scene: &S,
     place: u32,
@@ -70,7 +70,7 @@ fn push_entry<S: Scene>(out: &mut Vec<Constraint>, scene: &S, place: u32) -> Res
 }
 
 /// Adds ExitRet for a slot.
-fn push_ret<S: Scene>(
+pub(crate) fn push_ret<S: Scene>(
     out: &mut Vec<Constraint>,
     scene: &S,
     place: u32,
@@ -98,7 +98,7 @@ fn push_ret<S: Scene>(
 }
 
 /// Adds ExitOwn for a slot.
-fn push_own<S: Scene>(
+pub(crate) fn push_own<S: Scene>(
     out: &mut Vec<Constraint>,
     scene: &S,
     place: u32,
@@ -130,7 +130,7 @@ fn push_own<S: Scene>(
 }
 
 /// Adds ExitClosed for a slot.
-fn push_exit_closed<S: Scene>(
+pub(crate) fn push_exit_closed<S: Scene>(
     out: &mut Vec<Constraint>,
     scene: &S,
     place: u32,
@@ -244,8 +244,6 @@ fn push_edge<S: Scene>(
     push_action(alloc, out, scene, way, &edge.action)?;
     push_same(out, scene, way, &edge.action)
 }
-
-ghost use Rattle.transfer_rules.specs.Rules.{edge_rules, more_edges, rules_with};
 
 /// Adds all constraints of the first edge of a place and of the place itself.
 fn push_first<S: Scene>(

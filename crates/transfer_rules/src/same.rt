@@ -1,10 +1,10 @@
 ghost use Rattle.std.specs.Prelude.{◌≡◌, ◌++◌, ◌+◌, ◌<◌, ◌||◌, not, Bool, OnOk};
 ghost use Rattle.field_rules.specs.Lists.{gather, when};
-ghost use Rattle.field_rules.specs.Sight.{HasSlot};
+ghost use Rattle.field_rules.specs.Sight.{HasSlot, HasOmega, HasPointer};
 ghost use Rattle.flow_graph.specs.Fits.{is_in};
 ghost use Rattle.path_facts.specs.Columns.{empty_after, is_it};
-ghost use Rattle.transfer_rules.specs.Exist.{WayExists, HasMember};
-ghost use Rattle.transfer_rules.specs.Rules.{frees_rho, frees_slot, frees_field, field_of_it, same_field, same_slot, same};
+ghost use Rattle.transfer_rules.specs.Exist.{WayExists, HasMember, SourceExists, MemberExists};
+ghost use Rattle.transfer_rules.specs.Rules.{frees_rho, frees_slot, frees_field, field_of_it, same_field, same_slot, same, each_field, same_rho};
 
 use crate::action::{About, Way, push_form};
 use crate::constraint::Constraint;
@@ -78,8 +78,6 @@ fn empty_after<S: Scene>(scene: &S, place: u32, action: &Action, x: u32) -> bool
         | Action::Differ(_, _) => scene.empty(place, x),
     }
 }
-
-ghost use Rattle.transfer_rules.specs.Exist.{SourceExists};
 
 /// Whether an action may change whether a slot owns.
 fn frees_rho(action: &Action, x: u32) -> bool
@@ -192,8 +190,6 @@ fn frees_field<S: Scene>(scene: &S, action: &Action, x: u32, f: u32) -> bool
     }
 }
 
-ghost use Rattle.transfer_rules.specs.Exist.{MemberExists};
-
 /// Adds Same for a field of a slot.
 fn push_field<S: Scene>(
     out: &mut Vec<Constraint>,
@@ -221,9 +217,6 @@ fn push_field<S: Scene>(
     let form = Form::Equal(scene.omega(way.from, x, f), scene.omega(way.to, x, f));
     push_form(out, scene, way, about, form)
 }
-
-ghost use Rattle.field_rules.specs.Sight.{HasOmega, HasPointer};
-ghost use Rattle.transfer_rules.specs.Rules.{each_field};
 
 /// Adds Same for the fields of a slot.
 fn push_fields<S: Scene>(
@@ -275,10 +268,8 @@ fn push_rho<S: Scene>(
     push_form(out, scene, way, about, form)
 }
 
-ghost use Rattle.transfer_rules.specs.Rules.{same_rho};
-
 /// Adds Same for a slot.
-fn push_slot<S: Scene>(
+pub(crate) fn push_slot<S: Scene>(
     out: &mut Vec<Constraint>,
     scene: &S,
     way: Way,

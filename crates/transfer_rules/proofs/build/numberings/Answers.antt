@@ -1,11 +1,9 @@
-use Rattle.std.proofs.Common.{◌≡◌, ◌<◌, ◌≤◌, ◌+◌, ◌++◌, ℕ, suc, List, [], ◌∷◌, length, get_or, map, take, sym, ap, ap₂, below_more, ◌∙◌, subst, rules, arith}
+use Rattle.std.proofs.Common.{◌≡◌, ◌<◌, ◌++◌, List, [], ◌∷◌, length, sym, ap₂, below_more, ◌∙◌, subst, rules}
 use Rattle.std.specs.List.{All}
-use Rattle.std.specs.List.Sorted.{IsStrictlyIncreasing}
-use Rattle.std.specs.Prelude.{slice_index_or}
 use Rattle.owner_vars.specs.Unknowns.{Unknown, unknowns}
-use Rattle.transfer_rules.specs.Programs.{group_at, firsts}
+use Rattle.transfer_rules.specs.Programs.{firsts}
 use Rattle.transfer_rules.proofs.NameLemmas.{mapped_next}
-use Rattle.transfer_rules.proofs.Groupings.{first_over, all_bodies, all_some, firsts_bodies, firsts_count}
+use Rattle.transfer_rules.proofs.Groupings.{first_over, all_bodies, all_some, firsts_bodies}
 use Rattle.transfer_rules.proofs.build.numberings.Goals as goal
 
 pub firsts-requires : goal.firsts-requires

@@ -1,4 +1,4 @@
-use Rattle.std.proofs.Common.{◌≡◌, ◌<◌, ◌≤◌, length, ap, arith}
+use Rattle.std.proofs.Common.{length, ap, arith}
 use Rattle.transfer_rules.proofs.Few.{few_slots}
 use Rattle.transfer_rules.proofs.index.pointers_of.Goals as goal
 

@@ -1,4 +1,4 @@
-use Rattle.std.proofs.Common.{◌≡◌, ℕ, List, sym, ap, subst, ◌∙◌}
+use Rattle.std.proofs.Common.{ℕ, List, sym, ap, subst, ◌∙◌}
 use Rattle.transfer_rules.specs.Body.{Body}
 use Rattle.transfer_rules.specs.Bodies.{IsBodyOf}
 use Rattle.transfer_rules.specs.Programs.{Parts}

@@ -1,4 +1,4 @@
-use Rattle.std.proofs.Common.{◌≡◌, ◌<◌, ◌≤◌, ◌++◌, ℕ, List, length, get_or, map, take, ap, ◌∙◌, subst}
+use Rattle.std.proofs.Common.{◌++◌, ℕ, List, get_or, map, ap, ◌∙◌}
 use Rattle.std.proofs.lemmas.List.{take_all}
 use Rattle.std.specs.List.{flat_map}
 use Rattle.conflict_proof.specs.declared.names.ConstraintName.{ConstraintName}

@@ -1,4 +1,4 @@
-use Rattle.std.proofs.Common.{◌≡◌, ◌<◌, ℕ, sym, subst}
+use Rattle.std.proofs.Common.{◌<◌, ℕ, sym, subst}
 use Rattle.transfer_rules.specs.Body.{Body, sight, setting}
 use Rattle.transfer_rules.specs.Exist.{EdgesExist}
 use Rattle.transfer_rules.proofs.Whole.{member_edges}

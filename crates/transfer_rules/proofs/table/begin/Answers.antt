@@ -1,4 +1,4 @@
-use Rattle.std.proofs.Common.{◌≡◌, ap, sym}
+use Rattle.std.proofs.Common.{ap, sym}
 use Rattle.transfer_rules.specs.Table.{start}
 use Rattle.transfer_rules.proofs.Pieces.{begin_is}
 use Rattle.transfer_rules.proofs.table.begin.Goals as goal

@@ -1,5 +1,4 @@
-use Rattle.std.proofs.Common.{◌≡◌, ◌+◌, ◌≤◌, ◌-◌, ℕ, List, [], length, get_or, take, drop, sym, ap, ◌∙◌, arith}
-use Rattle.zo_core.specs.Literals.{Literal}
+use Rattle.std.proofs.Common.{◌≡◌, ◌-◌, get_or, take, drop, sym, ap, ◌∙◌, arith}
 use Rattle.transfer_rules.specs.Table.{start}
 use Rattle.transfer_rules.proofs.Pieces.{is_within, cut_at}
 use Rattle.transfer_rules.proofs.table.piece.Goals as goal
