@@ -1,0 +1,10 @@
+pub mod LineLemmas
+pub mod Among
+pub mod FirstLemmas
+pub mod ShapeLemmas
+pub mod KeyLemmas
+pub mod SiteLemmas
+pub mod RunLemmas
+pub mod MarkLemmas
+pub mod BrokenLemmas
+pub mod MissingLemmas

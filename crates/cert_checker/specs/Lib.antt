@@ -1,0 +1,5 @@
+pub mod Tables
+pub mod Keys
+pub mod Places
+pub mod Finding
+pub mod Checking
