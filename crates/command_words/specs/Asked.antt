@@ -1,5 +1,5 @@
 -- The command that the words of a command line mean, or none.
-use Rattle.std.specs.Prelude.{ℕ, ◌+◌, ◌-◌, ◌*◌, ◌==◌, ◌&&◌, nat_le, Bool, true, false, List, [], ◌∷◌, Option, Some, None}
+use Rattle.std.specs.Prelude.{ℕ, ◌+◌, ◌-◌, ◌*◌, ◌==◌, ◌≤◌, ◌&&◌, nat_le, Bool, true, false, List, [], ◌∷◌, Option, Some, None}
 use Rattle.std.specs.Prelude.{if◌then◌else◌, bytes_eq, codes, length, take, drop, option_map, option_and_then}
 use Rattle.std.specs.List.{list_all}
 use Rattle.std.specs.Char.{is_ascii_digit}
@@ -33,6 +33,14 @@ task_of (work.Sample count) = sample count
 
 abbrev pub asked_by : Command → Asked
 asked_by c = record { task = task_of c.work; budget = c.budget }
+
+-- the numbers of a command are in their ranges
+abbrev pub HasCount : Work → Type 0
+HasCount (work.Sample count) = (1 ≤ count) × (count ≤ 4000)
+HasCount _ = Unit {0}
+
+abbrev pub HasRanges : Command → Type 0
+HasRanges c = (1 ≤ c.budget) × (c.budget ≤ 100000000) × HasCount c.work
 
 -- ---- the kinds of words
 

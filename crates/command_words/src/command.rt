@@ -15,6 +15,6 @@ pub enum Work<'a> {
 #[derive(Clone, Copy, PartialEq, Eq, Debug, Drop)]
 pub struct Command<'a> {
     pub work: Work<'a>,
-    /// The most words of memory that a search may keep clauses in, 1 to 100,000,000.
+    /// How many words the lines of a search may cost, 1 to 100,000,000.
     pub budget: u64,
 }

@@ -1,4 +1,4 @@
-ghost use Rattle.std.specs.Prelude.{◌≡◌, ◌≤◌};
+ghost use Rattle.std.specs.Prelude.{◌≡◌, ◌≤◌, IfSome};
 ghost use Rattle.std.specs.Char.{is_ascii_digit};
 ghost use Rattle.std.specs.List.{list_all};
 ghost use Rattle.command_words.specs.Asked.{is_digits, number_in, within};
@@ -6,7 +6,8 @@ ghost use Rattle.command_words.specs.Asked.{is_digits, number_in, within};
 /// The number that the text spells in decimal: at most so many digits, and a number from 1 to `most`.
 pub fn number_in(text: &str, digits: usize, most: u32) -> Option<u32>
     requires { digits ≤ 9 }
-    ensures { result ≡ number_in digits most text.now }
+    ensures value { result ≡ number_in digits most text.now }
+    ensures range { IfSome result (λ n. (1 ≤ n) × (n ≤ most)) }
 {
     if !is_digits(text, digits) {
         return None;
@@ -30,7 +31,8 @@ fn all_digits(text: &[u8]) -> bool
 }
 
 fn within(most: u32, number: u32) -> Option<u32>
-    ensures { result ≡ within most number }
+    ensures value { result ≡ within most number }
+    ensures range { IfSome result (λ n. (1 ≤ n) × (n ≤ most)) }
 {
     if 1 <= number && number <= most {
         Some(number)

@@ -1,6 +1,6 @@
-ghost use Rattle.std.specs.Prelude.{◌≡◌, ◌↔◌, List, ℕ, [], ◌∷◌, IfOk, IfSome, map, codes, string_bytes, option_map, MatchOption, MatchResult};
+ghost use Rattle.std.specs.Prelude.{◌≡◌, ◌≤◌, IfOk, IfSome, Some, map, string_bytes, option_map};
 ghost use Rattle.clap.specs.Words.{app_of, found_of};
-ghost use Rattle.command_words.specs.Asked.{asked_by, asked_command, task_of, task_in, task_on_one, budget_in};
+ghost use Rattle.command_words.specs.Asked.{asked_by, asked_command, task_of, task_in, task_on_one, budget_in, HasCount, HasRanges};
 ghost use Rattle.command_words.specs.Program.{program, positionals_of, found_command, Finds};
 
 use crate::command::{Command, Work};
@@ -30,7 +30,8 @@ impl Model for Words {
 
 /// The command that the words mean; none where they are no command.
 pub fn asked<'a>(alloc: Global, words: &'a Words) -> Result<Option<Command<'a>>, Memory>
-    ensures { IfOk result (λ found. option_map asked_by found ≡ asked_command words.now) }
+    ensures ranges { IfOk result (λ found. IfSome found HasRanges) }
+    ensures command { IfOk result (λ found. option_map asked_by found ≡ asked_command words.now) }
 {
     match matches_of(alloc, words.items.as_slice())? {
         Some(matches) => Ok(command_of(&matches)),
@@ -73,7 +74,8 @@ fn program<'a>(alloc: Global) -> Result<clap::Command<'a>, AllocError>
 
 /// The command that the values mean.
 fn command_of<'a>(matches: &ArgMatches<'a>) -> Option<Command<'a>>
-    ensures { option_map asked_by result ≡ found_command (found_of matches.now) }
+    ensures ranges { IfSome result HasRanges }
+    ensures command { option_map asked_by result ≡ found_command (found_of matches.now) }
 {
     let mode = matches.get_str("mode")?;
     let arg = matches.get_str("arg")?;
@@ -83,7 +85,8 @@ fn command_of<'a>(matches: &ArgMatches<'a>) -> Option<Command<'a>>
 }
 
 fn work_of<'a>(mode: &str, arg: &'a str, arg2: Option<&'a str>) -> Option<Work<'a>>
-    ensures { option_map task_of result ≡ task_in (positionals_of (Some mode.now) (Some arg.now) (option_map (λ s. s.now) arg2.entry)) }
+    ensures count { IfSome result HasCount }
+    ensures work { option_map task_of result ≡ task_in (positionals_of (Some mode.now) (Some arg.now) (option_map (λ s. s.now) arg2.entry)) }
 {
     match arg2 {
         Some(text) if mode == "verify" => Some(Work::Verify { file: arg, text }),
@@ -94,7 +97,8 @@ fn work_of<'a>(mode: &str, arg: &'a str, arg2: Option<&'a str>) -> Option<Work<'
 
 /// What a mode with one more word asks for.
 fn work_on<'a>(mode: &str, arg: &'a str) -> Option<Work<'a>>
-    ensures { option_map task_of result ≡ task_on_one mode.now arg.now }
+    ensures count { IfSome result HasCount }
+    ensures work { option_map task_of result ≡ task_on_one mode.now arg.now }
 {
     if mode == "check" {
         Some(Work::Check { file: arg })
@@ -110,7 +114,8 @@ fn work_on<'a>(mode: &str, arg: &'a str) -> Option<Work<'a>>
 
 /// The budget, from the numbers that the option was given.
 fn budget_of(numbers: &[&str]) -> Option<u64>
-    ensures { result ≡ budget_in (map (λ s. s.now) numbers.now) }
+    ensures range { IfSome result (λ n. (1 ≤ n) × (n ≤ 100000000)) }
+    ensures budget { result ≡ budget_in (map (λ s. s.now) numbers.now) }
 {
     match numbers {
         [] => Some(USUAL_BUDGET),

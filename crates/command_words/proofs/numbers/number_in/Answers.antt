@@ -8,7 +8,10 @@ returns-in-Ok c =
     let is : is_digits c.args.digits c.args.text.now ≡ true = sym c.if-not-is_digits.ensures in
     let gives = parsed c.args.text.now c.args.digits c.parse.result c.parse.ensures.value.0 c.requires is in
     let same : c.in-Ok.number ≡ value_of c.args.text.now = cc in
-    c.within.ensures ∙ (ap (within c.args.most) same ∙ rw is refl)
+    record {
+      value = c.within.ensures.value ∙ (ap (within c.args.most) same ∙ rw is refl);
+      range = c.within.ensures.range;
+    }
 
 pub returns-in-Err : goal.returns-in-Err
 returns-in-Err c =
