@@ -9,7 +9,7 @@ use Rattle.std.specs.Prelude.{nat_lt}
 use Rattle.field_rules.specs.Lists.{gather, when}
 use Rattle.field_rules.specs.declared.edges.CallArg.{CallArg}
 use Rattle.field_rules.specs.Sight.{Sight, IsField, PointersFit, pointer_at, pointers, leads_to, field_to_at, fields_to, over_fields}
-use Rattle.field_rules.specs.Lines.{is_arg, bound_line, bound_lines, base_lines, one_base_lines, argument_line, argument_lines, sealed_lines, call_lines, is_other, other, others}
+use Rattle.field_rules.specs.Lines.{is_arg, bound_line, bound_lines, base_lines, one_base_lines, argument_line, argument_lines, sealed_lines, call_lines, is_other, other, others, base_at, bases_at, later}
 
 append_nil : {X : Type 0} (xs : List X) → xs ++ [] ≡ xs
 append_nil [] = refl
@@ -128,3 +128,38 @@ others_are_slots v p y s = up v.slots (omega arith)
     up : (n : ℕ) → n ≤ v.slots → All (PointsTo v s) (gather n (other v p y s))
     up zero le = All-nil (PointsTo v s)
     up (suc n) le = All-append (PointsTo v s) (gather n (other v p y s)) (other v p y s n) (up n (omega arith)) (other_is_slot v p y s n (omega arith))
+
+-- By struct
+
+pub no_base : (v : Sight) (p s : ℕ) → PointersFit v → (x : ℕ) → v.pointer x ≡ false → base_at v p s x ≡ []
+no_base v p s fit x e = ap (λ b. when b (x ∷ [])) (out (leads_to (v.structure x) s) (not (v.fresh p x)) (ap (λ o. leads_to o s) (no_struct v fit x e)))
+  where
+    out : (b c : Bool) → b ≡ false → (b && c) ≡ false
+    out true c h = cc
+    out false c h = refl
+
+-- those after a slot are its others
+pub after_bases : (v : Sight) (p y s : ℕ) → flat_map (later y) (bases_at v p s) ≡ others v p y s
+after_bases v p y s = up v.slots
+  where
+    one : (x l f : Bool) (z : ℕ) → nat_lt y z ≡ x → flat_map (later y) (when (l && f) (z ∷ [])) ≡ when ((x && l) && f) (z ∷ [])
+    one true true true z e = ap (λ b. when b (z ∷ []) ++ []) e
+    one true true false z e = refl
+    one true false f z e = refl
+    one false true true z e = ap (λ b. when b (z ∷ []) ++ []) e
+    one false true false z e = refl
+    one false false f z e = refl
+
+    up : (n : ℕ) → flat_map (later y) (gather n (base_at v p s)) ≡ gather n (other v p y s)
+    up zero = refl
+    up (suc n) =
+        flat_map-append (later y) (gather n (base_at v p s)) (base_at v p s n)
+        ∙ ap (λ zs. zs ++ flat_map (later y) (base_at v p s n)) (up n)
+        ∙ ap (λ zs. gather n (other v p y s) ++ zs) (one (nat_lt y n) (leads_to (v.structure n) s) (not (v.fresh p n)) n refl)
+
+-- an empty list more is as none
+pub push_empty : (xs : List (List ℕ)) (s : ℕ) → get_or (xs ++ [] ∷ []) s [] ≡ get_or xs s []
+push_empty [] zero = refl
+push_empty [] (suc s) = refl
+push_empty (x ∷ xs) zero = refl
+push_empty (x ∷ xs) (suc s) = push_empty xs s

@@ -96,6 +96,16 @@ other v p y s z = when (is_other v p y s z) (z ∷ [])
 abbrev pub others : Sight → ℕ → ℕ → ℕ → List ℕ
 others v p y s = gather v.slots (other v p y s)
 
+-- the same by struct: all slots that point to it and are not Fresh, and those of them after y
+abbrev pub base_at : Sight → ℕ → ℕ → ℕ → List ℕ
+base_at v p s z = when (leads_to (v.structure z) s && not (v.fresh p z)) (z ∷ [])
+
+abbrev pub bases_at : Sight → ℕ → ℕ → List ℕ
+bases_at v p s = gather v.slots (base_at v p s)
+
+abbrev pub later : ℕ → ℕ → List ℕ
+later y z = when (nat_lt y z) (z ∷ [])
+
 -- a field is open through one slot of two that are not Fresh
 abbrev pub one_base_line : Sight → ℕ → ℕ → ℕ → ℕ → List FieldLine
 one_base_line v p y f z = line (rule.OneBase (record { first = v.omega p y f; second = v.omega p z f })) y f z

@@ -7,6 +7,7 @@
 //! those of one slot alone. Stands on `zo_core`, and on `c_tree` for want of memory.
 #![tactic(auto)]
 
+mod bases;
 mod edge_lines;
 mod edges;
 mod lists;

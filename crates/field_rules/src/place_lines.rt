@@ -1,9 +1,10 @@
-ghost use Rattle.std.specs.Prelude.{◌≡◌, ◌<◌, ◌≤◌, ◌++◌, ◌+◌, not, Some, IfOk, OnOk};
+ghost use Rattle.std.specs.Prelude.{◌≡◌, ◌<◌, ◌≤◌, ◌++◌, ◌+◌, ℕ, [], not, slice_index_or, Some, IfOk, OnOk};
 ghost use Rattle.std.specs.List.{All, flat_map};
 ghost use Rattle.field_rules.specs.Lists.{gather, when};
 ghost use Rattle.field_rules.specs.Sight.{HasOmega, PlaceExists, pointers, over_range};
-ghost use Rattle.field_rules.specs.Lines.{bound_lines, is_other, other, others, one_base_line, base_line, base_lines, one_base_lines, pair_lines, place_lines};
+ghost use Rattle.field_rules.specs.Lines.{bound_lines, is_other, other, others, one_base_line, base_line, base_lines, one_base_lines, pair_lines, place_lines, bases_at};
 
+use crate::bases::{Slots, after, bases, slots_of};
 use crate::edge_lines::leads_to;
 use crate::edges::FieldLine;
 use crate::lists::FieldLines;
@@ -148,9 +149,10 @@ fn push_one_bases<V: View>(
     ensures { OnOk result (out.new.items
         ≡ out.old.items ++ gather (V.sight view.now).slots (one_base_lines (V.sight view.now) place)) }
 {
+    let bases = bases(alloc, view, place)?;
     let pointers = view.pointers();
     for y in pointers {
-        push_one_base(alloc, out, view, place, *y)?;
+        push_one_base(alloc, out, view, place, *y, &bases)?;
     }
     Ok(())
 }
@@ -162,9 +164,11 @@ fn push_one_base<V: View>(
     view: &V,
     place: u32,
     y: u32,
+    bases: &[Slots],
 ) -> Result<(), Memory>
     requires place { PlaceExists (V.sight view.now) place }
     requires slot { y < (V.sight view.now).slots }
+    requires bases { (s : ℕ) → slice_index_or bases.now s [] ≡ bases_at (V.sight view.now) place s }
     ensures { OnOk result (out.new.items ≡ out.old.items ++ one_base_lines (V.sight view.now) place y) }
 {
     if view.fresh(place, y) {
@@ -173,7 +177,15 @@ fn push_one_base<V: View>(
     let Some(structure) = view.structure(y) else {
         return Ok(());
     };
-    push_bases(alloc, out, view, place, y, structure)
+    push_bases(
+        alloc,
+        out,
+        view,
+        place,
+        y,
+        structure,
+        slots_of(bases, structure),
+    )
 }
 
 /// Adds that each field of a struct is not open through a slot and a later one.
@@ -184,16 +196,18 @@ fn push_bases<V: View>(
     place: u32,
     y: u32,
     structure: u32,
+    bases: &[u32],
 ) -> Result<(), Memory>
     requires place { PlaceExists (V.sight view.now) place }
     requires slot { y < (V.sight view.now).slots }
     requires structure { (V.sight view.now).structure y ≡ Some structure }
+    requires bases { bases.now ≡ bases_at (V.sight view.now) place structure }
     ensures { OnOk result (out.new.items ≡ out.old.items ++ base_lines (V.sight view.now) place y (Some structure)) }
 {
     if view.fields_of(structure).count == 0 {
         return Ok(());
     }
-    let others = others(alloc, view, place, y, structure)?;
+    let others = after(alloc, bases, y)?;
     push_fields(out, view, place, y, structure, &others)
 }
 
@@ -218,26 +232,6 @@ fn push_fields<V: View>(
         push_base(out, view, place, y, range.first + j, others)?;
     }
     Ok(())
-}
-
-/// The later slots that point to a struct and are not Fresh.
-fn others<V: View>(
-    alloc: Global,
-    view: &V,
-    place: u32,
-    y: u32,
-    structure: u32,
-) -> Result<Vec<u32>, Memory>
-    requires { PlaceExists (V.sight view.now) place }
-    ensures exact { IfOk result (λ zs. zs.items ≡ others (V.sight view.now) place y structure) }
-    ensures there { IfOk result (λ zs. All (λ z. (z < (V.sight view.now).slots) × ((V.sight view.now).structure z ≡ Some structure)) zs.items) }
-{
-    let mut out = Vec::new(alloc);
-    let pointers = view.pointers();
-    for z in pointers {
-        push_other(&mut out, view, place, y, structure, *z)?;
-    }
-    Ok(out)
 }
 
 /// Adds a slot where it is a later one that points to a struct and is not Fresh.

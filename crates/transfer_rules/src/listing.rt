@@ -119,7 +119,8 @@ pub fn group_clauses(
 }
 
 /// The clauses of a group's constraint of this name; none where the group has no such constraint. The group exists. It takes
-/// the time of its own clauses, of the arguments of the name's call and of the group's procedures, whatever else the place has. Its one refusal is want of memory.
+/// the time of its own clauses, of the arguments of a call at the name's place and of the group's procedures, whatever else
+/// the place has. Its one refusal is want of memory.
 pub fn clauses_of(
     alloc: Global,
     program: &Program,
