@@ -37,13 +37,17 @@ const fn sample(count: u32) -> Option<Command<'static>> {
     })
 }
 
+fn words_of(alloc: Global, texts: &[&str]) -> Result<Words, Memory> {
+    let mut items = Vec::new(alloc);
+    for text in texts {
+        items.push(String::from_str(alloc, text)?)?;
+    }
+    Ok(Words { items })
+}
+
 /// Whether the words are that command.
 fn is_row(alloc: Global, words: &[&str], command: Option<Command<'_>>) -> Result<bool, Memory> {
-    let mut items = Vec::new(alloc);
-    for word in words {
-        items.push(String::from_str(alloc, word)?)?;
-    }
-    let words = Words { items };
+    let words = words_of(alloc, words)?;
     Ok(asked(alloc, &words)? == command)
 }
 
@@ -177,6 +181,19 @@ fn samples_by_words(rt: HostRuntime) -> Result<(), Fail> {
     Ok(())
 }
 
+/// The source that the words ask for.
+fn source_asked(alloc: Global, words: &Words) -> Result<Option<Vec<u8>>, Memory> {
+    match asked(alloc, words)? {
+        Some(
+            Command {
+                work: Work::Sample { count },
+                ..
+            },
+        ) => Ok(Some(sample_source(alloc, count)?)),
+        _ => Ok(None),
+    }
+}
+
 /// The sample of one procedure.
 const ONE: &str = "struct node { int v; struct node *next; };\n\
     struct node *f0(struct node *p) { return p; }\n\
@@ -193,7 +210,8 @@ const THREE: &str = "struct node { int v; struct node *next; };\n\
 fn sample_texts(rt: HostRuntime) -> Result<(), Fail> {
     let one = sample_source(rt.alloc(), 1)?;
     assert_eq!(&rt; one.as_slice(), ONE.as_bytes());
-    let three = sample_source(rt.alloc(), 3)?;
+    let words = words_of(rt.alloc(), &["sample", "0003"])?;
+    let three = source_asked(rt.alloc(), &words)?.ok_or("a sample")?;
     assert_eq!(&rt; three.as_slice(), THREE.as_bytes());
     // 43 and 46 bytes for the lines of the struct and of f0, 117 for that of main, and for each of the 3,999 others 74 and the digits of
     // its number and twice those of the one before: 295,926 and 14,889 and 29,772.
