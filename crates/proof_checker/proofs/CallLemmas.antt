@@ -13,9 +13,9 @@ use Rattle.owner_vars.specs.Laws.{SitesAreNumbered}
 use Rattle.transfer_rules.specs.Programs.{Parts, IsProgram}
 use Rattle.verdict_meaning.specs.declared.callee.Callee.{Callee}
 use Rattle.verdict_meaning.specs.Systems.{System, root, members, first, firsts, callee, callees, nobody}
-use Rattle.verdict_meaning.specs.Programs.{callee_in, IsSystemOf}
+use Rattle.verdict_meaning.specs.Programs.{callee_in, IsSystemOf, system_in}
 use Rattle.proof_checker.specs.Sites.{called_at}
-use Rattle.proof_checker.specs.Programs.{system_in, AreGroupNumbers, calls_out, all_calls}
+use Rattle.proof_checker.specs.Programs.{AreGroupNumbers, calls_out, all_calls}
 use Rattle.proof_checker.proofs.GroupLemmas.{group_is, IsInGroup, in_its_group}
 
 -- Lists that are made one by one

@@ -12,9 +12,8 @@ use Rattle.transfer_rules.specs.Programs.{Parts, group_at}
 use Rattle.transfer_rules.specs.Rules.{constraints}
 use Rattle.verdict_meaning.specs.Systems.{root, names_of}
 use Rattle.verdict_meaning.specs.Solutions.{counts, all_names}
-use Rattle.verdict_meaning.specs.Programs.{clauses_found}
+use Rattle.verdict_meaning.specs.Programs.{clauses_found, system_in}
 use Rattle.verdict_meaning.proofs.Conditions.{same_name, itself}
-use Rattle.proof_checker.specs.Programs.{system_in}
 
 differ : true ≡ false → ⊥
 differ e = cc

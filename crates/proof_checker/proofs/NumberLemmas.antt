@@ -17,8 +17,8 @@ use Rattle.verdict_meaning.specs.declared.callee.Callee.{Callee}
 use Rattle.verdict_meaning.specs.Systems.{System, root, members, first, callee, callees, phi_numbers, pi_numbers, sigma_numbers, count}
 use Rattle.verdict_meaning.specs.Systems as system
 use Rattle.verdict_meaning.specs.Derivations.{Carried, paired, at_site, carried_number}
-use Rattle.verdict_meaning.specs.Programs.{root_callees, IsSystemOf}
-use Rattle.proof_checker.specs.Programs.{system_in, unknowns_in}
+use Rattle.verdict_meaning.specs.Programs.{root_callees, IsSystemOf, system_in}
+use Rattle.proof_checker.specs.Programs.{unknowns_in}
 use Rattle.proof_checker.proofs.GroupLemmas.{group_is}
 use Rattle.proof_checker.proofs.CallLemmas.{root_callees_are}
 

@@ -6,14 +6,11 @@ use Rattle.owner_vars.specs.Unknowns.{Unknown, field_count, site_callees}
 use Rattle.transfer_rules.specs.Programs.{Parts}
 use Rattle.transfer_rules.specs.Names.{in_scope}
 use Rattle.verdict_meaning.specs.declared.callee.Callee.{Callee}
-use Rattle.verdict_meaning.specs.Systems.{System, firsts}
+use Rattle.verdict_meaning.specs.Systems.{firsts}
 use Rattle.verdict_meaning.specs.Solutions.{all_names}
-use Rattle.verdict_meaning.specs.Programs.{group_of, callee_in, system_of}
+use Rattle.verdict_meaning.specs.Programs.{group_of, callee_in}
 use Rattle.proof_checker.specs.declared.counting.Counting.{Counting}
 use Rattle.proof_checker.specs.declared.counting.Counting.TheVariants.{All, In}
-
-abbrev pub system_in : Parts → System
-system_in p = system_of p.graph p.facts p.groups
 
 -- the names that count
 abbrev pub counted : Counting → ConstraintName → Bool

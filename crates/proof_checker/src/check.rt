@@ -1,8 +1,9 @@
 ghost use Rattle.std.specs.Prelude.{◌≡◌, IfErr, OnOk};
 ghost use Rattle.transfer_rules.specs.Names.{in_scope};
 ghost use Rattle.verdict_meaning.specs.Solutions.{all_names};
+ghost use Rattle.verdict_meaning.specs.Programs.{system_in};
 ghost use Rattle.proof_checker.specs.Checking.{IsAccepted, IsRefused};
-ghost use Rattle.proof_checker.specs.Programs.{system_in, counted};
+ghost use Rattle.proof_checker.specs.Programs.{counted};
 
 use crate::counting::Counting;
 use crate::faults::check;

@@ -2,7 +2,8 @@ ghost use Rattle.std.specs.Prelude.{◌≡◌, ◌+◌, ◌<◌, ◌≤◌, ◌^
 ghost use Rattle.std.specs.List.{Contains, range_with_len};
 ghost use Rattle.verdict_meaning.specs.Systems.{root, members, callee, callees, pi_numbers, sigma_numbers};
 ghost use Rattle.verdict_meaning.specs.Derivations.{paired, carried_number};
-ghost use Rattle.proof_checker.specs.Programs.{system_in, counted, unknowns_in, AreTables};
+ghost use Rattle.verdict_meaning.specs.Programs.{system_in};
+ghost use Rattle.proof_checker.specs.Programs.{counted, unknowns_in, AreTables};
 
 use crate::callees::{Callees, all_calls};
 use crate::constraints::Constraints;

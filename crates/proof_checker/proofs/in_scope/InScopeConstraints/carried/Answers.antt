@@ -1,6 +1,6 @@
 use Rattle.std.proofs.Common.{ap, ◌∙◌, arith}
 use Rattle.verdict_meaning.specs.Derivations.{at_site, carried_number}
-use Rattle.proof_checker.specs.Programs.{system_in}
+use Rattle.verdict_meaning.specs.Programs.{system_in}
 use Rattle.proof_checker.proofs.NumberLemmas.{field_itself, behind_fields, sizes}
 use Rattle.proof_checker.proofs.in_scope.InScopeConstraints.carried.Goals as goal
 
