@@ -34,3 +34,4 @@ mod trees;
 mod type_rules;
 #[cfg(test)]
 mod unknowns;
+mod value_table;

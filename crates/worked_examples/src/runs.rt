@@ -1,6 +1,7 @@
 // Runs of programs, step by step.
 use crate::harness::graph_of;
-use crate::run_table::{RUNS, Run, Seen, Shown};
+use crate::run_table::{HEAP_RUNS, Run, Seen, Shown};
+use crate::value_table::VALUE_RUNS;
 use c_tree::Memory;
 use flow_graph::Graph;
 use heap_meaning::{Choice, State, Stepped, Write, Writes, first_state, step};
@@ -108,7 +109,10 @@ fn check_run(rt: &impl Abort, alloc: Global, run: &Run) -> Result<(), Fail> {
 
 #[test]
 fn states_are_as_worked_out(rt: HostRuntime) -> Result<(), Fail> {
-    for run in &RUNS {
+    for run in &HEAP_RUNS {
+        check_run(&rt, rt.alloc(), run)?;
+    }
+    for run in &VALUE_RUNS {
         check_run(&rt, rt.alloc(), run)?;
     }
     Ok(())
