@@ -23,6 +23,8 @@ mod prefixes;
 #[cfg(test)]
 mod refusals;
 #[cfg(test)]
+mod rule_table;
+#[cfg(test)]
 mod run_table;
 #[cfg(test)]
 mod runs;
