@@ -5,6 +5,8 @@
 #![tactic(auto)]
 
 #[cfg(test)]
+mod derivations;
+#[cfg(test)]
 mod facts;
 #[cfg(test)]
 mod first_run;
