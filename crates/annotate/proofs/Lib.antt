@@ -1,0 +1,9 @@
+pub mod SpanRows
+pub mod FieldRows
+pub mod PositionRows
+pub mod LocalRows
+pub mod OrderRows
+pub mod SeatRows
+pub mod TextRows
+pub mod ReachRows
+pub mod LeadRows

@@ -1,0 +1,10 @@
+pub mod Names
+pub mod Spans
+pub mod Positions
+pub mod Fields
+pub mod Conflict
+pub mod Instances
+pub mod Locals
+pub mod Reach
+pub mod Keeps
+pub mod Annotation
