@@ -12,7 +12,7 @@
 //! for names of constraints, on `owner_vars` for the numbers of fields and bits, and on `itoa`.
 #![tactic(auto)]
 
-mod annotation;
+mod annotating;
 mod conflict;
 mod fields;
 mod found;
@@ -29,5 +29,5 @@ mod seats;
 mod source;
 mod spans;
 
-pub use annotation::annotation;
+pub use annotating::annotation;
 pub use conflict::{conflict_text, slot_text};
