@@ -37,5 +37,8 @@ mod trees;
 #[cfg(test)]
 mod type_rules;
 #[cfg(test)]
+mod unit_answers;
+#[cfg(test)]
 mod unknowns;
+#[cfg(test)]
 mod value_table;

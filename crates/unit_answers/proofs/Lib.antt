@@ -1,0 +1,14 @@
+pub mod Places
+pub mod Marks
+pub mod Forcing
+pub mod Carrying
+pub mod Standing
+pub mod Entering
+pub mod Exact
+pub mod Contradictory
+pub mod Rows
+pub mod NumberLemmas
+pub mod FaceNumbers
+pub mod Calls
+pub mod Settling
+pub mod GivenLemmas

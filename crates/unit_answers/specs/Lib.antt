@@ -1,0 +1,9 @@
+pub mod Sets
+pub mod Tables
+pub mod Reasons
+pub mod Contradictions
+pub mod Layouts
+pub mod Trails
+pub mod Propagation
+pub mod Settled
+pub mod Reopened
