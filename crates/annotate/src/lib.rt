@@ -12,7 +12,6 @@
 //! for names of constraints, on `owner_vars` for the numbers of fields and bits, and on `itoa`.
 #![tactic(auto)]
 
-mod annotating;
 mod conflict;
 mod fields;
 mod found;
@@ -28,6 +27,7 @@ mod reach;
 mod seats;
 mod source;
 mod spans;
+mod whole;
 
-pub use annotating::annotation;
 pub use conflict::{conflict_text, slot_text};
+pub use whole::annotation;

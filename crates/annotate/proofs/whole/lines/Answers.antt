@@ -1,7 +1,7 @@
 use Rattle.std.proofs.Common.{◌≡◌, ◌++◌, codes, ap, ◌∙◌}
 use Rattle.owner_vars.specs.Unknowns.{gather}
 use Rattle.annotate.specs.Annotation.{field_lines, extern_lines, proc_lines, keeps_lines}
-use Rattle.annotate.proofs.annotating.lines.Goals as goal
+use Rattle.annotate.proofs.whole.lines.Goals as goal
 
 pub returns : goal.returns
 returns c =

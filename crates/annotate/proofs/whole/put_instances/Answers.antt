@@ -1,7 +1,7 @@
 use Rattle.std.proofs.Common.{◌≡◌, ◌++◌, subst, ap, ◌∙◌}
 use Rattle.owner_vars.specs.Unknowns.{gather}
 use Rattle.annotate.specs.Annotation.{proc_lines}
-use Rattle.annotate.proofs.annotating.put_instances.Goals as goal
+use Rattle.annotate.proofs.whole.put_instances.Goals as goal
 
 pub returns : goal.returns
 returns c = record {

@@ -2,7 +2,7 @@ use Rattle.std.proofs.Common.{◌≡◌, ◌<◌, length, subst, sym, ap, ◌∙
 use Rattle.annotate.specs.Keeps.{AreLeads}
 use Rattle.annotate.specs.Reach.{AreRows}
 use Rattle.annotate.proofs.LeadRows.{lists_within, tells}
-use Rattle.annotate.proofs.annotating.put_kept.Goals as goal
+use Rattle.annotate.proofs.whole.put_kept.Goals as goal
 
 pub rows-requires-clause-within : goal.rows-requires-clause-within
 rows-requires-clause-within c =
