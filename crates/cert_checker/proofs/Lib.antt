@@ -8,3 +8,6 @@ pub mod RunLemmas
 pub mod MarkLemmas
 pub mod BrokenLemmas
 pub mod MissingLemmas
+pub mod ProgramLemmas
+pub mod GroupedLemmas
+pub mod WholeLemmas
