@@ -1,0 +1,14 @@
+pub mod Bits
+pub mod Lists
+pub mod Faces
+pub mod Grow
+pub mod Carry
+pub mod Table
+pub mod Asking
+pub mod Finding
+pub mod Stated
+pub mod Held
+pub mod Settling
+pub mod Made
+pub mod Certifying
+pub mod Verdicts

@@ -1,0 +1,30 @@
+//! The search for a verdict on the constraints of a program, call group by call group.
+//!
+//! [`judge`] answers with a certificate, with a refutation, or with a derivation that shows that the budget is spent; what
+//! each of them is `specs/Verdicts` says, in the words of `verdict_meaning`. It stands over the trait [`Groups`], which says
+//! what the groups of a program are and solves one group under literals that are given.
+//!
+//! The root is solved first. What its values ask for is then looked up or solved, the highest groups first, so that nothing
+//! is recursive: an instance of a group is asked for by higher groups alone. Where a group has no solution, the line that
+//! says so is carried to the site of the one who asked, by whose values it is false; so it is a new line and costs a word,
+//! and the search ends with the words. All lines stand in one [`Ledger`]. Instances that a new line doesn't refute are kept,
+//! until other fields own. An instance need only meet the lines that were carried to its group, as all others follow.
+//!
+//! Stands on `zo_core` for clauses, on `conflict_proof` and `own_cert` for what is answered, on `verdict_meaning` for what
+//! it means and on `c_tree` for want of memory.
+#![tactic(auto)]
+
+mod certify;
+mod entries;
+mod fill;
+mod given;
+mod groups;
+mod judging;
+mod keeping;
+mod ledger;
+mod search;
+mod site;
+
+pub use groups::{Groups, Outcome};
+pub use judging::{Judged, judge};
+pub use ledger::Ledger;
