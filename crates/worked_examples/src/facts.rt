@@ -3,7 +3,8 @@ ghost use Rattle.std.specs.Prelude.{◌<◌, length};
 ghost use Rattle.flow_graph.specs.FlowGraph.{flow_of};
 ghost use Rattle.path_facts.specs.Tables.{AreFactsOf};
 
-use crate::harness::{CONSTRUCTOR, JOIN, KEPT_CYCLE, LIST, graph_of};
+use crate::harness::graph_of;
+use crate::sources::{CONSTRUCTOR, JOIN, KEPT_CYCLE, LIST};
 use flow_graph::Graph;
 use path_facts::{Facts, facts, path_laws};
 use std::alloc::Global;

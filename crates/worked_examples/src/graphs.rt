@@ -1,7 +1,8 @@
 // Flow graphs of sources: slots, places and edges, each listed whole.
 ghost use Rattle.std.specs.Prelude.{◌<◌};
 
-use crate::harness::{CONSTRUCTOR, JOIN, KEPT_CYCLE, LIST, graph_of};
+use crate::harness::graph_of;
+use crate::sources::{CONSTRUCTOR, JOIN, KEPT_CYCLE, LIST};
 use flow_graph::Graph;
 use std::alloc::{AllocError, Global};
 use std::test::Fail;

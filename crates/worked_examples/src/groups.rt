@@ -1,5 +1,6 @@
 // Call groups of sources.
 use crate::harness::graph_of;
+use crate::sources::{MUTUAL, TWICE};
 use recursion_groups::groups;
 use std::alloc::Global;
 use std::process::Abort;
@@ -10,14 +11,6 @@ struct Grouped {
     source: &'static str,
     groups: &'static [&'static [u32]],
 }
-
-/// Two calls of one procedure.
-pub const TWICE: &str =
-    "int *id(int *p) { return p; } int main(void) { int *a; int *b; int *c; a = malloc(sizeof(int)); b = id(a); c = id(b); free(b); return 0; }";
-
-/// Two procedures that call one another.
-pub const MUTUAL: &str =
-    "struct node { int v; struct node *next; }; void odd(struct node *p); void even(struct node *p) { struct node *q; if (p == NULL) return; q = p->next; free(p); odd(q); } void odd(struct node *p) { struct node *q; if (p == NULL) return; q = p->next; free(p); even(q); } int main(void) { even(NULL); return 0; }";
 
 const GROUPED: [Grouped; 9] = [
     Grouped {

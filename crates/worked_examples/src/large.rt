@@ -1,5 +1,5 @@
 // Inputs that are large and within all limits: no call may answer them with want of memory.
-use crate::harness::{MOST_BYTES, parsed};
+use crate::harness::parsed;
 use crate::runs::{Machine, choice};
 use c_token::tokens;
 use c_tree::StmtForm;

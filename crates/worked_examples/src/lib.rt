@@ -1,11 +1,9 @@
 //! Worked examples: whole runs of the program over files in memory, as tables.
 //!
-//! This crate has only tests. What they expect is worked out by hand from the rules and the texts that
+//! This crate has only tests, and the sources that they share with `verdict_examples`. What they expect is worked out by hand from the rules and the texts that
 //! docs/ describes, and never copied from what the program prints.
 #![tactic(auto)]
 
-#[cfg(test)]
-mod derivations;
 #[cfg(test)]
 mod facts;
 #[cfg(test)]
@@ -25,20 +23,19 @@ mod prefixes;
 #[cfg(test)]
 mod refusals;
 #[cfg(test)]
-mod rule_table;
-#[cfg(test)]
 mod run_table;
 #[cfg(test)]
 mod runs;
 #[cfg(test)]
 mod shapes;
+mod sources;
 #[cfg(test)]
 mod trees;
 #[cfg(test)]
 mod type_rules;
 #[cfg(test)]
-mod unit_answers;
-#[cfg(test)]
 mod unknowns;
 #[cfg(test)]
 mod value_table;
+
+pub use sources::{CONSTRUCTOR, JOIN, KEPT_CYCLE, LIST, MOST_BYTES, MUTUAL, TWICE};

@@ -1,5 +1,6 @@
 // Every prefix of the list source.
-use crate::harness::{LIST, parsed, run};
+use crate::harness::{parsed, run};
+use crate::sources::LIST;
 use c_parser::ParseError;
 use std::alloc::Global;
 use std::test::Fail;

@@ -1,8 +1,8 @@
 // Unknowns of call groups and of the root, and their numbers.
 ghost use Rattle.std.specs.Prelude.{◌<◌};
 
-use crate::groups::{MUTUAL, TWICE};
 use crate::harness::graph_of;
+use crate::sources::{MUTUAL, TWICE};
 use c_types::LimitKind;
 use flow_graph::Graph;
 use owner_vars::{NumberError, Numbering, Site, Sites, fields, number, number_root, sites};

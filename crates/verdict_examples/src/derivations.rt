@@ -1,14 +1,13 @@
 // Derivations that refute, and the same with one thing altered.
 
-use crate::harness::MOST_BYTES;
-use clouseau_core::typed_source;
+use crate::programs::program_of;
 use conflict_proof::{
     BadLine, CheckError, ConstraintName, Derivation, Names, Reason, TextError, read,
 };
 use proof_checker::{check_derivation, check_derivation_in};
 use std::alloc::{AllocError, Global};
 use std::test::Fail;
-use transfer_rules::{Program, Scope, program};
+use transfer_rules::{Program, Scope};
 
 /// An object that is lost at the end of `main`.
 const LEAK: &str = "int main(void) { int *p; p = malloc(sizeof(int)); return 0; }";
@@ -385,16 +384,6 @@ const SCOPED: [Scoped; 8] = [
         bad: None,
     },
 ];
-
-fn program_of(alloc: Global, source: &[u8]) -> Result<Program, Fail> {
-    if source.len() > MOST_BYTES {
-        return Err(Fail::from("too long"));
-    }
-    let Ok(typed) = typed_source(alloc, source) else {
-        return Err(Fail::from("no typed tree"));
-    };
-    Ok(program(alloc, typed)?)
-}
 
 /// The text of these lines.
 fn text_of(alloc: Global, lines: &[&str]) -> Result<String, AllocError> {

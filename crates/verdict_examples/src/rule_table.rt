@@ -1,12 +1,12 @@
 // The constraints of call groups, their clauses, and the tables of clauses in scopes.
 ghost use Rattle.std.specs.Prelude.{◌≡◌, ◌<◌, length, nat_lt};
 
-use crate::harness::{KEPT_CYCLE, MOST_BYTES};
-use clouseau_core::typed_source;
+use crate::programs::program_of;
 use conflict_proof::{ConstraintName, Names};
 use std::alloc::Global;
 use std::test::Fail;
-use transfer_rules::{ClauseTable, Program, Scope, clauses_of, group_clauses, names_of, program};
+use transfer_rules::{ClauseTable, Program, Scope, clauses_of, group_clauses, names_of};
+use worked_examples::KEPT_CYCLE;
 use zo_core::{Clause, Lit};
 
 /// The numbers of a name: procedure, place, edge, rule, slot, field and other.
@@ -407,16 +407,6 @@ const TABLES: [Table; 4] = [
         ],
     },
 ];
-
-fn program_of(alloc: Global, source: &[u8]) -> Result<Program, Fail> {
-    if source.len() > MOST_BYTES {
-        return Err(Fail::from("too long"));
-    }
-    let Ok(typed) = typed_source(alloc, source) else {
-        return Err(Fail::from("no typed tree"));
-    };
-    Ok(program(alloc, typed)?)
-}
 
 fn has_group(program: &Program, group: u32) -> bool
     ensures { result ≡ nat_lt group (length program.now.groups) }

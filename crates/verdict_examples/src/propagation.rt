@@ -1,15 +1,16 @@
 // What propagation alone gives: sets of literals, contradictions, and the numbers of groups.
-use crate::harness::{CONSTRUCTOR, JOIN, KEPT_CYCLE, LIST, MOST_BYTES};
-use clouseau_core::typed_source;
+use crate::programs::program_of;
 use conflict_proof::{ConstraintName, Names};
 use std::alloc::Global;
 use std::process::Abort;
 use std::test::Fail;
-use transfer_rules::{Program, Scope, program};
+use transfer_rules::{Program, Scope};
 use unit_answers::{Contradiction, closures, contradiction, layout};
+use worked_examples::{CONSTRUCTOR, JOIN, KEPT_CYCLE, LIST};
 use zo_core::Lit;
 
-const FREED: &str = "int main(void) {\n  int *p;\n  p = malloc(sizeof(int));\n  free(p);\n  return 0;\n}";
+const FREED: &str =
+    "int main(void) {\n  int *p;\n  p = malloc(sizeof(int));\n  free(p);\n  return 0;\n}";
 
 const LEAK: &str = "int main(void) {\n  int *p;\n  p = malloc(sizeof(int));\n  return 0;\n}";
 
@@ -83,20 +84,6 @@ const SETS: [Set; 5] = [
     },
 ];
 
-fn program_of(alloc: Global, source: &str) -> Result<Program, Fail> {
-    let bytes = source.as_bytes();
-    if bytes.len() > MOST_BYTES {
-        return Err(Fail::from("too long"));
-    }
-    let Ok(typed) = typed_source(alloc, bytes) else {
-        return Err(Fail::from("no typed tree"));
-    };
-    let Ok(program) = program(alloc, typed) else {
-        return Err(Fail::from("no program"));
-    };
-    Ok(program)
-}
-
 /// The scope of all names.
 fn whole(alloc: Global) -> Scope {
     let after = ConstraintName {
@@ -142,15 +129,25 @@ fn lits(alloc: Global, numbers: &[i32]) -> Result<Vec<Lit>, Fail> {
 }
 
 fn check_set(rt: &impl Abort, alloc: Global, row: &Set) -> Result<(), Fail> {
-    let program = program_of(alloc, row.source)?;
+    let program = program_of(alloc, row.source.as_bytes())?;
     let scope = whole(alloc);
     let sets = closures(alloc, &program, &scope)?;
     assert!(rt; (row.group as usize) <= program.groups.items.len());
     let given = lits(alloc, row.given)?;
     let closed = sets.closed(alloc, &program, &scope, row.group, &given)?;
-    assert_eq!(rt; numbers(alloc, &closed)?.as_slice(), row.lits, "{}", row.source);
+    assert_eq!(rt;
+        numbers(alloc, &closed)?.as_slice(),
+        row.lits,
+        "{}",
+        row.source
+    );
     if row.given.is_empty() {
-        assert_eq!(rt; numbers(alloc, sets.of(row.group))?.as_slice(), row.lits, "{}", row.source);
+        assert_eq!(rt;
+            numbers(alloc, sets.of(row.group))?.as_slice(),
+            row.lits,
+            "{}",
+            row.source
+        );
     }
     Ok(())
 }
@@ -181,7 +178,7 @@ const REFUTED: [(&str, bool); 13] = [
 ];
 
 fn first_of(alloc: Global, source: &str) -> Result<Option<Contradiction>, Fail> {
-    let program = program_of(alloc, source)?;
+    let program = program_of(alloc, source.as_bytes())?;
     let scope = whole(alloc);
     let sets = closures(alloc, &program, &scope)?;
     Ok(contradiction(alloc, &sets)?)
@@ -201,7 +198,7 @@ fn contradictions_are_found(rt: HostRuntime) -> Result<(), Fail> {
 
 #[test]
 fn groups_are_laid_out(rt: HostRuntime) -> Result<(), Fail> {
-    let program = program_of(rt.alloc(), MADE)?;
+    let program = program_of(rt.alloc(), MADE.as_bytes())?;
     let layout = layout(rt.alloc(), &program)?;
     assert_eq!(rt; layout.fields, 0);
     let mut counts = Vec::new(rt.alloc());
