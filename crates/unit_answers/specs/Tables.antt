@@ -9,12 +9,7 @@ use Rattle.transfer_rules.specs.declared.scope.Scope.{Scope}
 use Rattle.transfer_rules.specs.Names.{NamedClause, named_clause, group_clauses}
 use Rattle.transfer_rules.specs.Programs.{Parts, group_at}
 use Rattle.verdict_meaning.specs.Systems.{System}
-use Rattle.verdict_meaning.specs.Programs.{system_of}
 use Rattle.verdict_meaning.specs.Derivations.{IsAxiomLine}
-
--- the system of a program
-abbrev pub system_in : Parts → System
-system_in p = system_of p.graph p.facts p.groups
 
 -- the clauses of a group that are in force in a scope, in order, with their names; the root has none
 abbrev pub clauses_of_group : FlowGraph → FactTables → List (List ℕ) → Scope → ℕ → List NamedClause

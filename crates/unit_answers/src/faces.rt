@@ -4,7 +4,7 @@ ghost use Rattle.owner_vars.specs.Unknowns.{unknowns, root_unknowns};
 ghost use Rattle.transfer_rules.specs.Programs.{group_at, firsts};
 ghost use Rattle.verdict_meaning.specs.Systems.{callees, root};
 ghost use Rattle.unit_answers.specs.Layouts.{IsFace, IsPart, IsSiteFace};
-ghost use Rattle.unit_answers.specs.Tables.{system_in};
+ghost use Rattle.verdict_meaning.specs.Programs.{system_in};
 
 use owner_vars::{Numbering, unknown_laws};
 use transfer_rules::Program;

@@ -7,7 +7,8 @@ ghost use Rattle.unit_answers.specs.Layouts.{IsLayoutOf};
 ghost use Rattle.unit_answers.specs.Reasons.{AreReasoned};
 ghost use Rattle.unit_answers.specs.Sets.{AreClosures, AreWithin};
 ghost use Rattle.unit_answers.specs.Settled.{AreLower, IsOrdered, IsSettled};
-ghost use Rattle.unit_answers.specs.Tables.{system_in, table_in};
+ghost use Rattle.verdict_meaning.specs.Programs.{system_in};
+ghost use Rattle.unit_answers.specs.Tables.{table_in};
 
 use crate::closing::{count_of, group_set, most_in, root_set};
 use crate::laying::layout;

@@ -4,7 +4,7 @@ ghost use Rattle.owner_vars.specs.Unknowns.{site_callees};
 ghost use Rattle.transfer_rules.specs.Programs.{group_at};
 ghost use Rattle.verdict_meaning.specs.Systems.{callees, count, root};
 ghost use Rattle.unit_answers.specs.Layouts.{AreGroupNumbers, AreHomes, IsCallAt, IsLayoutOf, outer_count};
-ghost use Rattle.unit_answers.specs.Tables.{system_in};
+ghost use Rattle.verdict_meaning.specs.Programs.{system_in};
 
 use crate::faces::{face, members, numbering, root_numbering, root_site_face, site_face};
 use crate::homes::homes;

@@ -1,11 +1,10 @@
 ghost use Rattle.std.specs.Prelude.{◌≡◌, ◌+◌, ◌<◌, ◌≤◌, ◌^◌, [], length, IfOk, OnOk};
 ghost use Rattle.std.specs.List.{All};
 ghost use Rattle.transfer_rules.specs.Names.{in_scope};
-ghost use Rattle.verdict_meaning.specs.Systems.{count};
 ghost use Rattle.unit_answers.specs.Propagation.{IsWithin};
 ghost use Rattle.unit_answers.specs.Reopened.{Gives, IsOpened, IsReopened};
 ghost use Rattle.unit_answers.specs.Sets.{AreClosures, IsSetOf};
-ghost use Rattle.unit_answers.specs.Tables.{system_in};
+ghost use Rattle.verdict_meaning.specs.Programs.{system_in};
 
 use crate::closing::{most_in, most_of};
 use crate::findings::Reason;
@@ -22,8 +21,8 @@ use zo_core::Lit;
 
 impl Closures {
     /// The literals of a group, or of the root, that propagation forces where these are given: in ascending order of unknowns,
-    /// the positive literal of an unknown before the negative one. The group is one of the program or the root, the literals given are
-    /// of its unknowns, and the sets are those of this program in this scope. Its one refusal is want of memory.
+    /// the positive literal of an unknown before the negative one. The group is one of the program or the root, and the sets are
+    /// those of this program in this scope. Its one refusal is want of memory.
     pub fn closed(
         &self,
         alloc: Global,
@@ -33,7 +32,6 @@ impl Closures {
         given: &[Lit],
     ) -> Result<Vec<Lit>, Memory>
         requires group { group ≤ length program.now.groups }
-        requires given { All (λ l. l.var ≤ count (system_in program.now) group) given.now }
         requires closures { AreClosures (system_in program.now) (in_scope scope.now) self.now }
         ensures { IfOk result (λ ls. IsSetOf (system_in program.now) (in_scope scope.now) group given.now ls.items) }
     {

@@ -1,12 +1,12 @@
 -- A clause without one of its literals is its resolvent with the denial of that literal.
-use Rattle.std.proofs.Common.{◌≡◌, ℕ, zero, suc, ◌+◌, ◌<◌, ◌≤◌, ◌⊎◌, inl, inr, Bool, true, false, cond, not, List, [], ◌∷◌, ◌++◌, length, get_or, Option, Some, None, refl, sym, ap, subst, ◌∙◌, arith}
+use Rattle.std.proofs.Common.{◌≡◌, ℕ, ◌+◌, ◌<◌, ◌≤◌, Bool, true, false, cond, List, [], ◌∷◌, ◌++◌, Option, Some, refl, sym, ap, ◌∙◌, arith}
 use Rattle.std.proofs.lemmas.Bool.{le-ltb, ne_eqb}
 use Rattle.std.proofs.lemmas.List.{append-nil, append_assoc}
 use Rattle.std.specs.List.{Contains}
 use Rattle.zo_core.specs.Literals.{Literal, opposite, literal_eq}
 use Rattle.zo_core.specs.Equality.{literal_eq-itself}
-use Rattle.zo_core.specs.Order.{Ascends, behind, with_literal, with_more, gathered}
-use Rattle.zo_core.specs.Resolvents.{without, joined_on, IsResolventOn, IsResolvent}
+use Rattle.zo_core.specs.Order.{Ascends, with_literal, with_more, gathered}
+use Rattle.zo_core.specs.Resolvents.{without, IsResolvent}
 
 -- each literal is of an unknown below v
 abbrev pub Below : ℕ → List Literal → Type 0

@@ -1,24 +1,21 @@
 -- The empty lines, and what all lines cost.
-use Rattle.std.proofs.Common.{◌≡◌, ◌≢◌, ℕ, zero, suc, ◌+◌, ◌-◌, ◌*◌, ◌/◌, ◌<◌, ◌≤◌, ◌⊎◌, inl, inr, Bool, true, false, cond, List, [], ◌∷◌, ◌++◌, length, get_or, map, Option, Some, None, slice_get, refl, sym, ap, subst, ◌∙◌, arith, eqb, eq-eqb}
+use Rattle.std.proofs.Common.{◌≡◌, ◌≢◌, ℕ, zero, suc, ◌+◌, ◌<◌, ◌≤◌, inl, inr, Bool, true, false, cond, List, [], ◌∷◌, ◌++◌, length, get_or, Option, Some, None, slice_get, refl, sym, ap, subst, ◌∙◌, arith, eq-eqb}
 use Rattle.std.specs.Prelude.{nat_eq}
-use Rattle.std.proofs.lemmas.Bool.{cases_Bool, cases_eq, false≢true}
 use Rattle.std.proofs.lemmas.Option.{slice_get_within}
 use Rattle.std.proofs.lemmas.List.Elements.{All-nil}
-use Rattle.std.specs.List.{Contains, All}
-use Rattle.zo_core.specs.Literals.{Literal, opposite, literal_eq}
+use Rattle.zo_core.specs.Literals.{Literal, opposite}
 use Rattle.zo_core.specs.Equality.{literal_eq-itself}
 use Rattle.zo_core.specs.Order.{gathered}
 use Rattle.zo_core.specs.Resolvents.{without, IsResolvent}
 use Rattle.conflict_proof.specs.declared.names.ConstraintName.{ConstraintName}
-use Rattle.conflict_proof.specs.declared.derivation.How.{How}
-use Rattle.conflict_proof.specs.declared.derivation.How.TheVariants.{Axiom, Resolve, Inst}
+use Rattle.conflict_proof.specs.declared.derivation.How.TheVariants.{Resolve, Inst}
 use Rattle.conflict_proof.specs.declared.derivation.Line.{Line}
 use Rattle.verdict_meaning.specs.declared.callee.Callee.{Callee}
 use Rattle.verdict_meaning.specs.Systems.{System, root, count, callee, callees, firsts, nobody}
-use Rattle.verdict_meaning.specs.Derivations.{line_at, IsClauseOf, IsRightLine, IsValidIn, NoClauseTwice, Refutes, cost_of, at_site, carried}
+use Rattle.verdict_meaning.specs.Derivations.{line_at, IsClauseOf, IsRightLine, IsValidIn, NoClauseTwice, at_site, carried}
 use Rattle.unit_refutation.specs.declared.writing.Writer.{Writer}
-use Rattle.unit_refutation.specs.declared.trails.Found.{Found}
-use Rattle.unit_refutation.specs.Lines.{line_of, IsLineOf, IsWithin, Puts, IsClauseFor, IsSpelled, IsOver, IsWhole}
+use Rattle.unit_refutation.specs.declared.steps.Step.{Step}
+use Rattle.unit_refutation.specs.Lines.{line_of, IsLineOf, IsWithin, Puts, IsSpelled, IsOver, IsWhole}
 use Rattle.unit_refutation.proofs.ListLemmas.{get_push_cases}
 use Rattle.unit_refutation.proofs.LineLemmas.{valid_push, once_push, puts_line, puts_within}
 use Rattle.unit_refutation.proofs.SpellLemmas.{put_over}
@@ -66,14 +63,14 @@ empty_right s U lines group i j l le a b = record {
 }
 
 -- no line of a literal is empty
-none_empty : (s : System) (U : ConstraintName → Bool) (trail : List Found) (end : ℕ) (lines : List Line) → IsSpelled s U trail end lines → (k : ℕ) (m : Line) → slice_get lines k ≡ Some m → m.lits ≡ [] → ⊥
+none_empty : (s : System) (U : ConstraintName → Bool) (trail : List Step) (end : ℕ) (lines : List Line) → IsSpelled s U trail end lines → (k : ℕ) (m : Line) → slice_get lines k ≡ Some m → m.lits ≡ [] → ⊥
 none_empty s U trail end lines h k m at e =
     let has = (h.each k m at).is.holds in
     let size = ap length e in
     let lt = has.1 in
     omega (arith, size, lt)
 
-pub empty_valid : (s : System) (U : ConstraintName → Bool) (trail : List Found) (end : ℕ) (old new : Writer) (group i j : ℕ) (l : Literal) (n : Option ℕ)
+pub empty_valid : (s : System) (U : ConstraintName → Bool) (trail : List Step) (end : ℕ) (old new : Writer) (group i j : ℕ) (l : Literal) (n : Option ℕ)
     → IsSpelled s U trail end old.lines.items → group ≤ root s → IsLineOf old.lines.items i group (l ∷ []) → IsLineOf old.lines.items j group (opposite l ∷ []) → Puts group (Resolve i j) [] old new n
     → IsValidIn s U new.lines.items × NoClauseTwice new.lines.items
 empty_valid s U trail end old new group i j l n h le a b p = (
@@ -82,7 +79,7 @@ empty_valid s U trail end old new group i j l n h le a b p = (
       (once_push old.lines.items (line_of group (Resolve i j) []) h.once (λ k m at g e. none_empty s U trail end old.lines.items h k m at e)),
 )
 
-pub empty_over : (s : System) (U : ConstraintName → Bool) (trail : List Found) (end : ℕ) (old new : Writer) (group i j : ℕ) (l : Literal)
+pub empty_over : (s : System) (U : ConstraintName → Bool) (trail : List Step) (end : ℕ) (old new : Writer) (group i j : ℕ) (l : Literal)
     → IsSpelled s U trail end old.lines.items → group ≤ root s → IsLineOf old.lines.items i group (l ∷ []) → IsLineOf old.lines.items j group (opposite l ∷ []) → IsWithin old
     → Puts group (Resolve i j) [] old new None → IsOver s U new
 empty_over s U trail end old new group i j l h le a b w p =
@@ -90,7 +87,7 @@ empty_over s U trail end old new group i j l h le a b w p =
     put_over s U group (Resolve i j) [] old new w p v.0 v.1
 
 -- where the contradiction is in the root
-pub whole_there : (s : System) (U : ConstraintName → Bool) (trail : List Found) (end : ℕ) (old new : Writer) (group i j k : ℕ) (l : Literal)
+pub whole_there : (s : System) (U : ConstraintName → Bool) (trail : List Step) (end : ℕ) (old new : Writer) (group i j k : ℕ) (l : Literal)
     → IsSpelled s U trail end old.lines.items → group ≤ root s → IsLineOf old.lines.items i group (l ∷ []) → IsLineOf old.lines.items j group (opposite l ∷ []) → IsWithin old
     → Puts group (Resolve i j) [] old new (Some k) → group ≡ root s → IsWhole s U new
 whole_there s U trail end old new group i j k l h le a b w p e =
@@ -143,7 +140,7 @@ root_right s U lines group i lt a =
       };
     }
 
-pub root_valid : (s : System) (U : ConstraintName → Bool) (trail : List Found) (end : ℕ) (old mid new : Writer) (group i j k : ℕ) (l : Literal) (n : Option ℕ)
+pub root_valid : (s : System) (U : ConstraintName → Bool) (trail : List Step) (end : ℕ) (old mid new : Writer) (group i j k : ℕ) (l : Literal) (n : Option ℕ)
     → IsSpelled s U trail end old.lines.items → group ≤ root s → IsLineOf old.lines.items i group (l ∷ []) → IsLineOf old.lines.items j group (opposite l ∷ [])
     → Puts group (Resolve i j) [] old mid (Some k) → group ≢ root s → Puts (root s) (Inst k group) [] mid new n
     → IsValidIn s U new.lines.items × NoClauseTwice new.lines.items
@@ -160,14 +157,14 @@ root_valid s U trail end old mid new group i j k l n h le a b p ne q =
           ])),
     )
 
-pub root_over : (s : System) (U : ConstraintName → Bool) (trail : List Found) (end : ℕ) (old mid new : Writer) (group i j k : ℕ) (l : Literal)
+pub root_over : (s : System) (U : ConstraintName → Bool) (trail : List Step) (end : ℕ) (old mid new : Writer) (group i j k : ℕ) (l : Literal)
     → IsSpelled s U trail end old.lines.items → group ≤ root s → IsLineOf old.lines.items i group (l ∷ []) → IsLineOf old.lines.items j group (opposite l ∷ []) → IsWithin old
     → Puts group (Resolve i j) [] old mid (Some k) → group ≢ root s → Puts (root s) (Inst k group) [] mid new None → IsOver s U new
 root_over s U trail end old mid new group i j k l h le a b w p ne q =
     let v = root_valid s U trail end old mid new group i j k l None h le a b p ne q in
     put_over s U (root s) (Inst k group) [] mid new (puts_within group (Resolve i j) [] old mid k w p) q v.0 v.1
 
-pub whole_carried : (s : System) (U : ConstraintName → Bool) (trail : List Found) (end : ℕ) (old mid new : Writer) (group i j k n : ℕ) (l : Literal)
+pub whole_carried : (s : System) (U : ConstraintName → Bool) (trail : List Step) (end : ℕ) (old mid new : Writer) (group i j k n : ℕ) (l : Literal)
     → IsSpelled s U trail end old.lines.items → group ≤ root s → IsLineOf old.lines.items i group (l ∷ []) → IsLineOf old.lines.items j group (opposite l ∷ []) → IsWithin old
     → Puts group (Resolve i j) [] old mid (Some k) → group ≢ root s → Puts (root s) (Inst k group) [] mid new (Some n) → IsWhole s U new
 whole_carried s U trail end old mid new group i j k n l h le a b w p ne q =

@@ -1,9 +1,11 @@
 pub mod ListLemmas
 pub mod ClauseLemmas
 pub mod RestLemmas
-pub mod MarkLemmas
+pub mod NumberLemmas
 pub mod LineLemmas
 pub mod SpellLemmas
-pub mod EndLemmas
 pub mod StepLemmas
+pub mod EndLemmas
 pub mod BoundLemmas
+pub mod CollectLemmas
+pub mod TableLemmas

@@ -1,9 +1,9 @@
 -- How derivations grow.
-use Rattle.std.proofs.Common.{◌≡◌, ◌≢◌, ℕ, zero, suc, ◌+◌, ◌-◌, ◌*◌, ◌<◌, ◌≤◌, ◌⊎◌, inl, inr, Bool, List, [], ◌∷◌, ◌++◌, length, Option, Some, None, slice_get, refl, sym, ap, subst, ◌∙◌, arith, add-one}
+use Rattle.std.proofs.Common.{◌≡◌, ℕ, zero, suc, ◌+◌, ◌≤◌, inl, inr, Bool, List, [], ◌∷◌, ◌++◌, length, Option, Some, None, slice_get, refl, sym, ap, subst, ◌∙◌, arith, add-one}
+use Rattle.std.specs.Prelude.{IfSome}
 use Rattle.std.proofs.lemmas.List.Sums.{sum_by_push, sum_by-cons}
 use Rattle.std.proofs.lemmas.List.{append_assoc, length_push, append-nil}
-use Rattle.std.proofs.lemmas.Option.{slice_get_within}
-use Rattle.zo_core.specs.Literals.{Literal, opposite}
+use Rattle.zo_core.specs.Literals.{Literal}
 use Rattle.conflict_proof.specs.declared.names.ConstraintName.{ConstraintName}
 use Rattle.conflict_proof.specs.declared.derivation.How.{How}
 use Rattle.conflict_proof.specs.declared.derivation.How.TheVariants.{Axiom, Resolve, Inst}
@@ -128,3 +128,7 @@ puts_line group how lits old new k p =
 
 pub puts_within : (group : ℕ) (how : How) (lits : List Literal) (old new : Writer) (k : ℕ) → IsWithin old → Puts group how lits old new (Some k) → IsWithin new
 puts_within group how lits old new k w p = record { cost = puts_cost group how lits old new (Some k) w.cost p; within = p.answer.0 }
+
+pub put_within : (group : ℕ) (how : How) (lits : List Literal) (old new : Writer) (n : Option ℕ) → IsWithin old → Puts group how lits old new n → IfSome n (λ k. IsWithin new)
+put_within group how lits old new None w p = tt
+put_within group how lits old new (Some k) w p = puts_within group how lits old new k w p

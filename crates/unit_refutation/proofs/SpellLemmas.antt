@@ -1,34 +1,26 @@
 -- The lines for the literals of a trail.
-use Rattle.std.proofs.Common.{◌≡◌, ◌≢◌, ℕ, zero, suc, ◌+◌, ◌-◌, ◌*◌, ◌<◌, ◌≤◌, ◌⊎◌, inl, inr, Bool, true, false, cond, List, [], ◌∷◌, ◌++◌, length, get_or, take, drop, Option, Some, None, slice_get, refl, sym, ap, subst, ◌∙◌, arith}
-use Rattle.std.specs.Prelude.{slice_index}
-use Rattle.std.proofs.lemmas.Bool.{cases_Bool, cases_eq, false≢true}
+use Rattle.std.proofs.Common.{◌≡◌, ℕ, zero, suc, ◌+◌, ◌<◌, ◌≤◌, inl, inr, Bool, true, false, cond, List, [], ◌∷◌, ◌++◌, length, take, drop, Option, Some, None, slice_get, refl, sym, ap, subst, ◌∙◌, arith}
+use Rattle.std.proofs.lemmas.Bool.{cases_Bool, false≢true}
 use Rattle.std.proofs.lemmas.Option.{slice_get_within}
-use Rattle.std.proofs.lemmas.List.{append-nil}
-use Rattle.std.specs.List.{Contains, All}
+use Rattle.std.specs.List.{Contains}
 use Rattle.std.proofs.lemmas.List.Elements.{All-weaker, All-contains_itself}
 use Rattle.zo_core.specs.Literals.{Literal, opposite, literal_eq}
-use Rattle.zo_core.specs.Equality.{literal_eq-true, literal_eq-of, literal_eq-itself}
-use Rattle.zo_core.specs.Order.{Ascends, gathered}
+use Rattle.zo_core.specs.Equality.{literal_eq-true, literal_eq-of}
+use Rattle.zo_core.specs.Order.{Ascends}
 use Rattle.zo_core.specs.Resolvents.{without, IsResolvent}
 use Rattle.conflict_proof.specs.declared.names.ConstraintName.{ConstraintName}
 use Rattle.conflict_proof.specs.declared.derivation.How.{How}
 use Rattle.conflict_proof.specs.declared.derivation.How.TheVariants.{Axiom, Resolve, Inst}
 use Rattle.conflict_proof.specs.declared.derivation.Line.{Line}
-use Rattle.verdict_meaning.specs.Systems.{System, root, count, callee, callees}
-use Rattle.verdict_meaning.specs.Derivations.{line_at, IsClauseOf, IsAxiomLine, IsResolventLine, IsInstLine, IsRightLine, IsValidIn, NoClauseTwice, cost_of, at_site, Carried, carried, carried_number, with_number}
-use Rattle.verdict_meaning.specs.Closures.{StandsFor}
-use Rattle.unit_refutation.specs.declared.trails.Reason.{Reason}
-use Rattle.unit_refutation.specs.declared.trails.Reason.TheVariants.{Clause, Site}
-use Rattle.unit_refutation.specs.declared.trails.Found.{Found}
+use Rattle.verdict_meaning.specs.Systems.{System, root, count}
+use Rattle.verdict_meaning.specs.Derivations.{line_at, IsClauseOf, IsAxiomLine, IsRightLine, IsValidIn, NoClauseTwice, at_site, Carried, carried, carried_number, with_number}
+use Rattle.unit_refutation.specs.declared.steps.Step.{Step}
 use Rattle.unit_refutation.specs.declared.writing.Writer.{Writer}
-use Rattle.unit_refutation.specs.Trails.{StandsAt, StandsBefore, IsForced, IsCarried, IsReason, IsFound, IsOnce, IsConsistent, IsTrail}
-use Rattle.unit_refutation.specs.Marks.{IsMarked, StandsMarked, PremisesAreMarked, AreClosedFrom}
-use Rattle.unit_refutation.specs.Lines.{line_of, IsLineOf, IsWithin, Puts, Grows, rest_of, only, IsClauseFor, IsClauseBelow, IsSpelled, IsSpelling, IsOver, HasNumber, IsNumbered, DenialsAreNumbered, PremisesAreNumbered, AreNumbered, Spells, SpellsAll}
-use Rattle.unit_refutation.proofs.ListLemmas.{get_push_cases, same_some}
-use Rattle.unit_refutation.proofs.ClauseLemmas.{resolvent_without, ascends_without}
-use Rattle.unit_refutation.proofs.RestLemmas.{rest_step, rest_stays, rest_end, rest_holds}
-use Rattle.unit_refutation.proofs.MarkLemmas.{one_place}
-use Rattle.unit_refutation.proofs.LineLemmas.{valid_push, once_push, puts_cost, puts_line, puts_within, line_of_kept}
+use Rattle.unit_refutation.specs.Trails.{IsForced, IsCarried, IsStep, IsOnce, IsConsistent}
+use Rattle.unit_refutation.specs.Lines.{line_of, IsLineOf, IsWithin, Puts, rest_of, only, IsClauseFor, IsSpelled, IsSpelling, IsOver}
+use Rattle.unit_refutation.proofs.ListLemmas.{get_push_cases}
+use Rattle.unit_refutation.proofs.ClauseLemmas.{resolvent_without}
+use Rattle.unit_refutation.proofs.LineLemmas.{valid_push, once_push, puts_cost}
 
 -- What is left of a clause
 
@@ -95,39 +87,39 @@ without-shorter m (x ∷ c) h = elim (cases_Bool (literal_eq x m)) [
 
 -- Each clause is for one place
 
-not_both : (trail : List Found) (j k group : ℕ) (c : List Literal) → IsOnce trail → IsConsistent trail → j < k → IsClauseFor trail j group c → IsClauseFor trail k group c → ⊥
+not_both : (trail : List Step) (j k group : ℕ) (c : List Literal) → IsOnce trail → IsConsistent trail → j < k → IsClauseFor trail j group c → IsClauseFor trail k group c → ⊥
 not_both trail j k group c once consistent lt a b =
-    let within : k < length trail = slice_get_within trail k b.found b.there in
-    elim (cases_Bool (literal_eq a.found.lit b.found.lit)) [
+    let within : k < length trail = slice_get_within trail k b.step b.there in
+    elim (cases_Bool (literal_eq a.step.lit b.step.lit)) [
       | inl e ↦
-          let same : j ≡ k = once j k a.found b.found a.there b.there (a.is_group ∙ sym b.is_group) (literal_eq-true a.found.lit b.found.lit e) in
+          let same : j ≡ k = once j k a.step b.step a.there b.there (a.is_group ∙ sym b.is_group) (literal_eq-true a.step.lit b.step.lit e) in
           omega (arith, lt, same)
       | inr e ↦
-          let h = b.others a.found.lit a.holds (λ q. false≢true (sym e ∙ literal_eq-of a.found.lit b.found.lit q)) in
+          let h = b.others a.step.lit a.holds (λ q. false≢true (sym e ∙ literal_eq-of a.step.lit b.step.lit q)) in
           let earlier = h.earlier in
-          consistent h.place j h.stands.found a.found (omega (arith, earlier, within)) (omega (arith, lt, within)) h.stands.there a.there
+          consistent h.place j h.stands.step a.step (omega (arith, earlier, within)) (omega (arith, lt, within)) h.stands.there a.there
           (h.stands.is_group ∙ sym a.is_group) h.stands.is_lit
     ]
 
 -- the clause in which a literal is left with others of the clause that forces it
-pub forced_for : (s : System) (U : ConstraintName → Bool) (trail : List Found) (place : ℕ) (found : Found) (name : ConstraintName) (c : List Literal) (i : ℕ)
-    → slice_get trail place ≡ Some found → IsForced s U trail place found.group name c found.lit → IsClauseFor trail place found.group (rest_of found.lit i c)
-forced_for s U trail place found name c i at f = record {
-  found = found;
+pub forced_for : (s : System) (U : ConstraintName → Bool) (trail : List Step) (place : ℕ) (step : Step) (name : ConstraintName) (c : List Literal) (i : ℕ)
+    → slice_get trail place ≡ Some step → IsForced s U trail place step.group name c step.lit → IsClauseFor trail place step.group (rest_of step.lit i c)
+forced_for s U trail place step name c i at f = record {
+  step = step;
   there = at;
   is_group = refl;
-  holds = rest_has found.lit i c f.holds;
-  others = λ m has ne. f.denied m (rest_in found.lit m i c has) ne;
+  holds = rest_has step.lit i c f.holds;
+  others = λ m has ne. f.denied m (rest_in step.lit m i c has) ne;
 }
 
 -- the clause of the literal alone
-pub alone_for : (trail : List Found) (place : ℕ) (found : Found) → slice_get trail place ≡ Some found → IsClauseFor trail place found.group (found.lit ∷ [])
-alone_for trail place found at = record {
-  found = found;
+pub alone_for : (trail : List Step) (place : ℕ) (step : Step) → slice_get trail place ≡ Some step → IsClauseFor trail place step.group (step.lit ∷ [])
+alone_for trail place step at = record {
+  step = step;
   there = at;
   is_group = refl;
   holds = (0, omega arith, refl);
-  others = λ m has ne. absurd (ne (alone m found.lit has));
+  others = λ m has ne. absurd (ne (alone m step.lit has));
 }
   where
     alone : (m l : Literal) → Contains (l ∷ []) m → m ≡ l
@@ -135,23 +127,23 @@ alone_for trail place found at = record {
     alone m l (suc k, lt, e) = absurd (omega arith)
 
 -- a clause for a place is one of the group's unknowns
-pub clause_within : (s : System) (U : ConstraintName → Bool) (trail : List Found) (clause_of : ℕ → List Literal) (place group : ℕ) (c : List Literal)
-    → ((p : ℕ) (f : Found) → slice_get trail p ≡ Some f → IsFound s U trail (clause_of p) p f) → Ascends 0 c → IsClauseFor trail place group c → IsClauseOf s group c
-clause_within s U trail clause_of place group c each order h = (order, All-weaker (Contains c) (λ (m : Literal). m.var ≤ count s group) each_within c (All-contains_itself c))
+pub clause_within : (s : System) (U : ConstraintName → Bool) (trail : List Step) (place group : ℕ) (c : List Literal)
+    → ((p : ℕ) (f : Step) → slice_get trail p ≡ Some f → IsStep s U trail p f) → Ascends 0 c → IsClauseFor trail place group c → IsClauseOf s group c
+clause_within s U trail place group c each order h = (order, All-weaker (Contains c) (λ (m : Literal). m.var ≤ count s group) each_within c (All-contains_itself c))
   where
-    of_group : (n : ℕ) (f : Found) → slice_get trail n ≡ Some f → f.group ≡ group → f.lit.var ≤ count s group
+    of_group : (n : ℕ) (f : Step) → slice_get trail n ≡ Some f → f.group ≡ group → f.lit.var ≤ count s group
     of_group n f at g = subst (λ (e : ℕ). f.lit.var ≤ count s e) g (each n f at).within
 
     each_within : (m : Literal) → Contains c m → m.var ≤ count s group
-    each_within m has = elim (cases_Bool (literal_eq m h.found.lit)) [
+    each_within m has = elim (cases_Bool (literal_eq m h.step.lit)) [
       | inl e ↦
-          let same = ap (λ (x : Literal). x.var) (literal_eq-true m h.found.lit e) in
-          let le = of_group place h.found h.there h.is_group in
+          let same = ap (λ (x : Literal). x.var) (literal_eq-true m h.step.lit e) in
+          let le = of_group place h.step h.there h.is_group in
           omega (arith, same, le)
       | inr e ↦
-          let b = h.others m has (λ q. false≢true (sym e ∙ literal_eq-of m h.found.lit q)) in
+          let b = h.others m has (λ q. false≢true (sym e ∙ literal_eq-of m h.step.lit q)) in
           let same = ap (λ (x : Literal). x.var) b.stands.is_lit in
-          let le = of_group b.place b.stands.found b.stands.there b.stands.is_group in
+          let le = of_group b.place b.stands.step b.stands.there b.stands.is_group in
           omega (arith, same, le)
     ]
 
@@ -194,10 +186,10 @@ carried_alone ps l m number sign =
     ∙ ap (λ (b : Bool). let x : Literal = record { var = l.var; sign = b } in Some (x ∷ [])) (sym sign)
 
 -- so is the line of a literal that stands at a site for one of the called group
-pub instance_right : (s : System) (U : ConstraintName → Bool) (lines : List Line) (trail : List Found) (place group i site from : ℕ) (lit : Literal)
-    → group ≤ root s → IsClauseOf s group (lit ∷ []) → (h : IsCarried s trail place group site from lit) → IsLineOf lines i h.lower.group (h.lower.lit ∷ [])
+pub instance_right : (s : System) (U : ConstraintName → Bool) (lines : List Line) (trail : List Step) (place group i site lower : ℕ) (m lit : Literal)
+    → group ≤ root s → IsClauseOf s group (lit ∷ []) → (h : IsCarried s trail place group site lower m lit) → IsLineOf lines i lower (m ∷ [])
     → IsRightLine s U lines (length lines + 1) (line_of group (Inst i site) (lit ∷ []))
-instance_right s U lines trail place group i site from lit le is h a = record {
+instance_right s U lines trail place group i site lower m lit le is h a = record {
   group = le;
   clause = is;
   right = record {
@@ -205,19 +197,19 @@ instance_right s U lines trail place group i site from lit le is h a = record {
     line = a.line;
     there = a.there;
     earlier = number_earlier lines i a.line a.there;
-    group = a.is_group ∙ h.called;
+    group = a.is_group ∙ sym h.called;
     lits = lit ∷ [];
-    is_carried = ap (carried (at_site s group site)) a.is_lits ∙ carried_alone (at_site s group site) lit h.lower.lit h.stands.unknown h.stands.sign;
+    is_carried = ap (carried (at_site s group site)) a.is_lits ∙ carried_alone (at_site s group site) lit m h.stands.unknown h.stands.sign;
     in_order = refl;
   };
 }
 
 -- The lines of one place
 
-pub spelling_begins : (s : System) (U : ConstraintName → Bool) (trail : List Found) (place least : ℕ) (lines : List Line) → IsSpelled s U trail place lines → IsSpelling s U trail place least lines
+pub spelling_begins : (s : System) (U : ConstraintName → Bool) (trail : List Step) (place least : ℕ) (lines : List Line) → IsSpelled s U trail place lines → IsSpelling s U trail place least lines
 spelling_begins s U trail place least lines h = record { valid = h.valid; once = h.once; each = λ k line at. inl (h.each k line at) }
 
-pub spelling_ends : (s : System) (U : ConstraintName → Bool) (trail : List Found) (place least : ℕ) (lines : List Line) → IsSpelling s U trail place least lines → IsSpelled s U trail (place + 1) lines
+pub spelling_ends : (s : System) (U : ConstraintName → Bool) (trail : List Step) (place least : ℕ) (lines : List Line) → IsSpelling s U trail place least lines → IsSpelled s U trail (place + 1) lines
 spelling_ends s U trail place least lines h = record {
   valid = h.valid;
   once = h.once;
@@ -228,14 +220,14 @@ spelling_ends s U trail place least lines h = record {
 }
 
 -- a place without lines
-pub spelled_on : (s : System) (U : ConstraintName → Bool) (trail : List Found) (place : ℕ) (lines : List Line) → IsSpelled s U trail place lines → IsSpelled s U trail (place + 1) lines
+pub spelled_on : (s : System) (U : ConstraintName → Bool) (trail : List Step) (place : ℕ) (lines : List Line) → IsSpelled s U trail place lines → IsSpelled s U trail (place + 1) lines
 spelled_on s U trail place lines h = spelling_ends s U trail place 0 lines (spelling_begins s U trail place 0 lines h)
 
 -- the clause is for the same place
-same_clause : (trail : List Found) (place g h : ℕ) (c d : List Literal) → g ≡ h → c ≡ d → IsClauseFor trail place g c → IsClauseFor trail place h d
+same_clause : (trail : List Step) (place g h : ℕ) (c d : List Literal) → g ≡ h → c ≡ d → IsClauseFor trail place g c → IsClauseFor trail place h d
 same_clause trail place g h c d e f own = subst (λ (x : List Literal). IsClauseFor trail place h x) f (subst (λ (x : ℕ). IsClauseFor trail place x c) e own)
 
-pub spelling_push : (s : System) (U : ConstraintName → Bool) (trail : List Found) (place least : ℕ) (lines : List Line) (group : ℕ) (how : How) (c : List Literal)
+pub spelling_push : (s : System) (U : ConstraintName → Bool) (trail : List Step) (place least : ℕ) (lines : List Line) (group : ℕ) (how : How) (c : List Literal)
     → IsOnce trail → IsConsistent trail → IsSpelling s U trail place least lines → length c < least → IsClauseFor trail place group c
     → IsRightLine s U lines (length lines + 1) (line_of group how c) → IsSpelling s U trail place (length c) (lines ++ line_of group how c ∷ [])
 spelling_push s U trail place least lines group how c once consistent h shorter own right = record {
@@ -258,7 +250,7 @@ spelling_push s U trail place least lines group how c once consistent h shorter 
 }
 
 -- the same of what a writer put
-pub spelling_put : (s : System) (U : ConstraintName → Bool) (trail : List Found) (place least : ℕ) (old new : Writer) (group : ℕ) (how : How) (c : List Literal) (n : Option ℕ)
+pub spelling_put : (s : System) (U : ConstraintName → Bool) (trail : List Step) (place least : ℕ) (old new : Writer) (group : ℕ) (how : How) (c : List Literal) (n : Option ℕ)
     → IsOnce trail → IsConsistent trail → IsSpelling s U trail place least old.lines.items → length c < least → IsClauseFor trail place group c
     → IsRightLine s U old.lines.items (length old.lines.items + 1) (line_of group how c) → Puts group how c old new n → IsSpelling s U trail place (length c) new.lines.items
 spelling_put s U trail place least old new group how c n once consistent h shorter own right p =
@@ -278,32 +270,6 @@ put_over s U group how c old new w p valid once = record {
   within = let e = w.cost in let f = p.budget in let le = w.within in omega (arith, e, f, le);
 }
 
-pub spelling_over : (s : System) (U : ConstraintName → Bool) (trail : List Found) (place least group : ℕ) (how : How) (c : List Literal) (old new : Writer)
+pub spelling_over : (s : System) (U : ConstraintName → Bool) (trail : List Step) (place least group : ℕ) (how : How) (c : List Literal) (old new : Writer)
     → IsWithin old → Puts group how c old new None → IsSpelling s U trail place least new.lines.items → IsOver s U new
 spelling_over s U trail place least group how c old new w p h = put_over s U group how c old new w p h.valid h.once
-
--- Numbers of lines
-
--- the number of a literal is that of its line
-pub denial_line : (trail : List Found) (numbers : List ℕ) (lines : List Line) (number group : ℕ) (lit : Literal) → IsOnce trail → IsNumbered trail numbers lines group lit → HasNumber trail numbers group lit number
-    → IsLineOf lines number group (lit ∷ [])
-denial_line trail numbers lines number group lit once h n =
-    subst (λ (k : ℕ). IsLineOf lines k group (lit ∷ []))
-    (ap (slice_index numbers) (one_place trail h.place n.place group lit once h.stands n.stands) ∙ sym n.is) h.line
-
--- what a marked place stands on has lines
-pub premises_numbered : (trail : List Found) (clause_of : ℕ → List Literal) (marks : List Bool) (numbers : List ℕ) (lines : List Line) (place : ℕ) (c : List Literal) (group : ℕ) (lit : Literal) (why : Reason)
-    → place < length trail → AreNumbered trail marks numbers lines place → PremisesAreMarked trail marks c place group lit why
-    → PremisesAreNumbered trail numbers lines c group lit why
-premises_numbered trail clause_of marks numbers lines place c group lit (Clause name) within all h = λ m has ne. numbered_denial m (h m has ne)
-  where
-    numbered_denial : (m : Literal) → StandsMarked trail marks place group (opposite m) → IsNumbered trail numbers lines group (opposite m)
-    numbered_denial m b = record {
-      place = b.place;
-      within = let lt = b.earlier in omega (arith, lt, within);
-      stands = b.stands;
-      line =
-          subst (λ (g : ℕ). IsLineOf lines (slice_index numbers b.place) g (opposite m ∷ [])) b.stands.is_group
-          (subst (λ (l : Literal). IsLineOf lines (slice_index numbers b.place) b.stands.found.group (l ∷ [])) b.stands.is_lit (all b.place b.stands.found b.earlier b.stands.there b.marked));
-    }
-premises_numbered trail clause_of marks numbers lines place c group lit (Site site from) within all h = λ f at. all from f h.0 at h.1

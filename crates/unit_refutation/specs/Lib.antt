@@ -1,4 +1,6 @@
+pub mod Numbers
+pub mod Room
 pub mod Trails
-pub mod Marks
 pub mod Lines
+pub mod Collecting
 pub mod Refutations

@@ -1,9 +1,10 @@
 -- The refutation that propagation alone gives, under a budget.
-use Rattle.std.specs.Prelude.{ℕ, ◌+◌, ◌*◌, ◌<◌, ◌≤◌, Bool, List}
+use Rattle.std.specs.Prelude.{ℕ, ◌+◌, ◌*◌, ◌<◌, ◌≤◌, Bool, List, Option, Some, None}
 use Rattle.conflict_proof.specs.declared.names.ConstraintName.{ConstraintName}
 use Rattle.conflict_proof.specs.declared.derivation.Line.{Line}
 use Rattle.verdict_meaning.specs.Systems.{System, root}
 use Rattle.verdict_meaning.specs.Derivations.{IsValidIn, Refutes, NoClauseTwice, cost_of, HasAtMost, IsSpent}
+use Rattle.verdict_meaning.specs.Closures.{IsUnitRefuted}
 use Rattle.unit_refutation.specs.declared.refuting.Refutation.{Refutation}
 use Rattle.unit_refutation.specs.declared.refuting.Refutation.TheVariants.{Whole, Over}
 
@@ -28,3 +29,8 @@ pub record IsUnitSpent (s : System) (U : ConstraintName → Bool) (budget : ℕ)
 abbrev pub IsRefutation : System → (ConstraintName → Bool) → ℕ → Refutation → Type 0
 IsRefutation s U budget (Whole d) = IsUnitRefutation s U budget d.lines
 IsRefutation s U budget (Over d) = IsUnitSpent s U budget d.lines
+
+-- what the whole answer says: there is none exactly where propagation reaches no unknown in both signs
+abbrev pub IsAnswer : System → (ConstraintName → Bool) → ℕ → Option Refutation → Type 0
+IsAnswer s U budget None = IsUnitRefuted s U → ⊥
+IsAnswer s U budget (Some made) = IsUnitRefuted s U × IsRefutation s U budget made

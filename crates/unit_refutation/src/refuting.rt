@@ -1,18 +1,22 @@
-ghost use Rattle.std.specs.Prelude.{◌≡◌, ◌+◌, ◌*◌, ◌<◌, ◌≤◌, [], ◌∷◌, length, IfOk, MatchBool};
-ghost use Rattle.zo_core.specs.Literals.{opposite};
-ghost use Rattle.verdict_meaning.specs.Systems.{root};
-ghost use Rattle.unit_refutation.specs.Trails.{IsTrail};
-ghost use Rattle.unit_refutation.specs.Marks.{IsMarked, AreClosedFrom};
-ghost use Rattle.unit_refutation.specs.Lines.{IsLineOf, IsWithin, Grows, IsSpelled, IsWhole, IsOver};
+ghost use Rattle.std.specs.Prelude.{◌≡◌, ◌≤◌, [], length, IfOk};
+ghost use Rattle.zo_core.specs.Literals.{Literal, opposite};
+ghost use Rattle.unit_refutation.specs.Numbers.{HasRoom};
+ghost use Rattle.unit_refutation.specs.Trails.{EndsIn};
+ghost use Rattle.unit_refutation.specs.Lines.{IsWithin, Grows, AreRoomy, Ends, WritesTrail};
+ghost use Rattle.unit_refutation.specs.Collecting.{lit_found, IsAsked};
 ghost use Rattle.unit_refutation.specs.Refutations.{IsRefutation};
 
-use crate::marking::mark_all;
+use crate::collecting::{collect, lit_at};
+use crate::numbers::LitNumbers;
 use crate::spelling::spell_all;
-use crate::trails::Trail;
+use crate::steps::Step;
+use crate::tables::Tables;
 use crate::writing::Writer;
 use c_tree::Memory;
 use conflict_proof::{Derivation, How, Lines};
 use std::alloc::Global;
+use unit_answers::{Closures, Contradiction};
+use zo_core::Lit;
 
 /// The lines of a refutation by propagation.
 #[derive(Drop)]
@@ -23,14 +27,33 @@ pub enum Refutation {
     Over(Derivation),
 }
 
-/// The refutation that a trail gives, under a budget of words. It takes time and memory in proportion to the trail and the
-/// clauses by which its literals were found.
-pub fn refute<T: Trail>(alloc: Global, trail: &T, budget: u32) -> Result<Refutation, Memory>
-    requires { IsTrail (T.system trail.now) (T.scope trail.now) (T.finds trail.now) (T.clause_of trail.now) }
-    ensures { IfOk result (IsRefutation (T.system trail.now) (T.scope trail.now) budget) }
+/// The refutation that a contradiction gives, under a budget of words. It takes time and memory in proportion to what was found
+/// in the groups up to that of the contradiction and to the clauses of those on which it stands. Its one refusal is want of
+/// memory.
+pub(crate) fn refute<T: Tables>(
+    alloc: Global,
+    tables: &T,
+    closures: &Closures,
+    clash: Contradiction,
+    budget: u32,
+) -> Result<Refutation, Memory>
+    requires { IsAsked (T.system tables.now) (T.scope tables.now) (T.rows tables.now) closures.now clash }
+    ensures { IfOk result (IsRefutation (T.system tables.now) (T.scope tables.now) budget) }
 {
+    let mut numbers = LitNumbers::new(alloc, closures, clash.group)?;
+    let lit = lit_at(closures, clash.group, clash.place as usize);
+    let steps = trail(alloc, tables, closures, clash, lit, &mut numbers)?;
+    let root = tables.root();
     let mut writer = Writer::new(alloc, budget);
-    let whole = write(alloc, trail, &mut writer)?;
+    let whole = write(
+        alloc,
+        &steps,
+        &mut numbers,
+        &mut writer,
+        clash.group,
+        lit,
+        root,
+    )?;
     let Writer { lines, .. } = writer;
     let derivation = Derivation {
         lines: Lines { items: lines },
@@ -41,75 +64,73 @@ pub fn refute<T: Trail>(alloc: Global, trail: &T, budget: u32) -> Result<Refutat
     Ok(Refutation::Over(derivation))
 }
 
-/// Writes the lines on which the clash of a trail stands, and the empty lines. False where the cost went over the budget.
-fn write<T: Trail>(alloc: Global, trail: &T, writer: &mut Writer) -> Result<bool, Memory>
-    requires trail { IsTrail (T.system trail.now) (T.scope trail.now) (T.finds trail.now) (T.clause_of trail.now) }
-    requires none { writer.old.lines.items ≡ [] }
-    requires words { writer.old.words ≡ 0 }
-    ensures words { IfOk result (λ _. writer.new.words ≤ 16 * length (T.finds trail.now) + 2) }
-    ensures budget { IfOk result (λ _. writer.new.budget ≡ writer.old.budget) }
-    ensures answer { IfOk result (λ whole. MatchBool whole (IsWhole (T.system trail.now) (T.scope trail.now) writer.new) (IsOver (T.system trail.now) (T.scope trail.now) writer.new)) }
+/// The steps on which a contradiction stands, each after those that it stands on itself.
+fn trail<T: Tables>(
+    alloc: Global,
+    tables: &T,
+    closures: &Closures,
+    clash: Contradiction,
+    lit: Lit,
+    numbers: &mut LitNumbers,
+) -> Result<Vec<Step>, Memory>
+    requires asked { IsAsked (T.system tables.now) (T.scope tables.now) (T.rows tables.now) closures.now clash }
+    requires room { HasRoomFor closures.now clash.group numbers.old }
+    requires lit { lit ≡ lit_found closures.now clash.group clash.place }
+    ensures ends { IfOk result (λ steps. EndsIn (T.system tables.now) (T.scope tables.now) clash.group lit steps.items) }
+    ensures room { IfOk result (λ steps. AreRoomy numbers.new steps.items) }
+    ensures first { IfOk result (λ _. HasRoom numbers.new clash.group lit) }
+    ensures second { IfOk result (λ _. HasRoom numbers.new clash.group (opposite lit)) }
 {
-    let last = trail.len() - 1;
-    let clash = trail.at(last);
-    let other = trail.place(clash.group, clash.lit.negated());
-    let marks = needed(alloc, trail, last, other)?;
-    let Some(numbers) = spell_all(alloc, trail, &marks, writer)? else {
-        return Ok(false);
-    };
-    end(
-        alloc,
-        trail,
-        writer,
-        clash.group,
-        numbers[last],
-        numbers[other],
-    )
+    numbers.set(clash.group, lit, 1);
+    numbers.set(clash.group, lit.negated(), 1);
+    let mut steps = collect(alloc, tables, closures, clash, numbers)?;
+    steps.reverse();
+    Ok(steps)
 }
 
-/// The marks of all places on which two stand, and of these.
-fn needed<T: Trail>(
+/// Writes the lines of all steps and the empty lines. False where the cost went over the budget.
+fn write(
     alloc: Global,
-    trail: &T,
-    first: usize,
-    second: usize,
-) -> Result<Vec<bool>, Memory>
-    requires trail { IsTrail (T.system trail.now) (T.scope trail.now) (T.finds trail.now) (T.clause_of trail.now) }
-    requires first { first < length (T.finds trail.now) }
-    requires second { second < length (T.finds trail.now) }
-    ensures count { IfOk result (λ marks. length marks.items ≡ length (T.finds trail.now)) }
-    ensures first { IfOk result (λ marks. IsMarked marks.items first) }
-    ensures second { IfOk result (λ marks. IsMarked marks.items second) }
-    ensures closed { IfOk result (λ marks. AreClosedFrom (T.finds trail.now) (T.clause_of trail.now) marks.items 0) }
-{
-    let mut marks = vec![in alloc; false; trail.len()]?;
-    marks[first] = true;
-    marks[second] = true;
-    mark_all(trail, &mut marks);
-    Ok(marks)
-}
-
-/// Resolves the lines of two opposite literals to the empty line, and carries this to the root unless it is there. False where
-/// the cost went over the budget.
-fn end<T: Trail>(
-    alloc: Global,
-    trail: &T,
+    steps: &[Step],
+    numbers: &mut LitNumbers,
     writer: &mut Writer,
     group: u32,
+    lit: Lit,
+    root: u32,
+) -> Result<bool, Memory>
+    requires room { AreRoomy numbers.old steps.now }
+    requires first { HasRoom numbers.old group lit }
+    requires second { HasRoom numbers.old group (opposite lit) }
+    requires none { writer.old.lines.items ≡ [] }
+    requires within { IsWithin writer.old }
+    ensures { IfOk result (WritesTrail steps.now group lit root writer.old writer.new) }
+{
+    let whole = spell_all(alloc, steps, numbers, writer)?;
+    if whole {
+        let first = numbers.get(group, lit);
+        let second = numbers.get(group, lit.negated());
+        return end(alloc, writer, group, root, first, second);
+    }
+    Ok(false)
+}
+
+/// Resolves the lines of two opposite literals of a group to the empty line, and carries this to the root unless it is there.
+/// False where the cost went over the budget.
+fn end(
+    alloc: Global,
+    writer: &mut Writer,
+    group: u32,
+    root: u32,
     first: u32,
     second: u32,
 ) -> Result<bool, Memory>
-    requires group { group ≤ root (T.system trail.now) }
-    requires spelled { IsSpelled (T.system trail.now) (T.scope trail.now) (T.finds trail.now) (length (T.finds trail.now)) writer.old.lines.items }
-    requires within { IsWithin writer.old }
-    requires lines { (l : Literal) × IsLineOf writer.old.lines.items first group (l ∷ []) × IsLineOf writer.old.lines.items second group (opposite l ∷ []) }
+    requires { IsWithin writer.old }
     ensures grows { IfOk result (λ _. Grows 2 writer.old writer.new) }
-    ensures answer { IfOk result (λ whole. MatchBool whole (IsWhole (T.system trail.now) (T.scope trail.now) writer.new) (IsOver (T.system trail.now) (T.scope trail.now) writer.new)) }
+    ensures ends { IfOk result (Ends group root first second writer.old writer.new) }
 {
     let Some(empty) = writer.put(alloc, group, How::Resolve(first, second), &[])? else {
         return Ok(false);
     };
-    let root = trail.root();
     if group == root {
         return Ok(true);
     }
@@ -119,4 +140,4 @@ fn end<T: Trail>(
     }
 }
 
-ghost use Rattle.zo_core.specs.Literals.{Literal};
+ghost use Rattle.unit_refutation.specs.Room.{HasRoomFor};

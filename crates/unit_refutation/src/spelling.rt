@@ -1,117 +1,94 @@
-ghost use Rattle.std.specs.Prelude.{◌≡◌, ◌<◌, ◌≤◌, [], ◌∷◌, length, slice_get, Some, IfOk, option_map};
-ghost use Rattle.unit_refutation.specs.declared.trails.Found.{Found};
-ghost use Rattle.unit_refutation.specs.Trails.{StandsBefore, IsForced, IsTrail};
-ghost use Rattle.unit_refutation.specs.Marks.{AreClosedFrom};
-ghost use Rattle.unit_refutation.specs.Lines.{HasNumber, IsWithin, IsSpelled, DenialsAreNumbered, PremisesAreNumbered, Spells, SpellsAll};
+ghost use Rattle.std.specs.Prelude.{◌≡◌, ℕ, [], IfOk, IfSome, IsTrue};
+ghost use Rattle.zo_core.specs.Literals.{Literal};
+ghost use Rattle.unit_refutation.specs.declared.steps.Cause.TheVariants.{Clause};
+ghost use Rattle.unit_refutation.specs.Numbers.{HasRoom};
+ghost use Rattle.unit_refutation.specs.Lines.{IsWithin, IsRoomy, AreRoomy, SpellsStep, SpellsTrail};
 
-use crate::trails::{Found, Reason, Trail};
+use crate::numbers::LitNumbers;
+use crate::steps::{Cause, Step};
 use crate::writing::{Writer, without};
 use c_tree::Memory;
 use conflict_proof::{ConstraintName, How};
 use std::alloc::Global;
 use zo_core::Lit;
 
-/// Writes the lines of all marked places, in their order. The numbers of the lines by place, or None where the cost went
-/// over the budget.
-pub(crate) fn spell_all<T: Trail>(
+/// Writes the lines of all steps in their order, and notes the number of each literal's line. False where the cost went over
+/// the budget.
+pub(crate) fn spell_all(
     alloc: Global,
-    trail: &T,
-    marks: &[bool],
+    steps: &[Step],
+    numbers: &mut LitNumbers,
     writer: &mut Writer,
-) -> Result<Option<Vec<u32>>, Memory>
-    requires trail { IsTrail (T.system trail.now) (T.scope trail.now) (T.finds trail.now) (T.clause_of trail.now) }
-    requires count { length marks.now ≡ length (T.finds trail.now) }
-    requires closed { AreClosedFrom (T.finds trail.now) (T.clause_of trail.now) marks.now 0 }
+) -> Result<bool, Memory>
+    requires room { AreRoomy numbers.old steps.now }
     requires none { writer.old.lines.items ≡ [] }
     requires within { IsWithin writer.old }
-    ensures { IfOk result (λ numbers. SpellsAll (T.system trail.now) (T.scope trail.now) (T.finds trail.now) marks.now writer.old writer.new (option_map (λ v. v.items) numbers)) }
+    ensures spells { IfOk result (SpellsTrail steps.now writer.old writer.new numbers.new) }
+    ensures within { IfOk result (λ whole. IsTrue whole → IsWithin writer.new) }
+    ensures kept { IfOk result (λ _. (group : ℕ) (lit : Literal) → HasRoom numbers.old group lit → HasRoom numbers.new group lit) }
 {
-    let mut numbers = vec![in alloc; 0; marks.len()]?;
-    for place in 0..marks.len() {
-        if marks[place] {
-            match spell(alloc, trail, &numbers, writer, place)? {
-                None => return Ok(None),
-                Some(number) => numbers[place] = number,
-            }
+    for step in steps {
+        match spell(alloc, step, numbers, writer)? {
+            None => return Ok(false),
+            Some(number) => numbers.set(step.group, step.lit, number),
         }
     }
-    Ok(Some(numbers))
+    Ok(true)
 }
 
-/// Writes the lines of the literal at a place. The number of its line, or None where the cost went over the budget.
-fn spell<T: Trail>(
+/// Writes the lines of a step. The number of its literal's line, or None where the cost went over the budget.
+fn spell(
     alloc: Global,
-    trail: &T,
-    numbers: &[u32],
+    step: &Step,
+    numbers: &LitNumbers,
     writer: &mut Writer,
-    place: usize,
 ) -> Result<Option<u32>, Memory>
-    requires trail { IsTrail (T.system trail.now) (T.scope trail.now) (T.finds trail.now) (T.clause_of trail.now) }
-    requires there { place < length (T.finds trail.now) }
-    requires count { length numbers.now ≡ length (T.finds trail.now) }
-    requires spelled { IsSpelled (T.system trail.now) (T.scope trail.now) (T.finds trail.now) place writer.old.lines.items }
+    requires room { IsRoomy numbers.now step.now }
     requires within { IsWithin writer.old }
-    requires numbered { (f : Found) → slice_get (T.finds trail.now) place ≡ Some f
-        → PremisesAreNumbered (T.finds trail.now) numbers.now writer.old.lines.items (T.clause_of trail.now place) f.group f.lit f.reason }
-    ensures { IfOk result (λ n. (f : Found) → slice_get (T.finds trail.now) place ≡ Some f
-        → Spells (T.system trail.now) (T.scope trail.now) (T.finds trail.now) place f.group f.lit writer.old writer.new n) }
+    ensures spells { IfOk result (λ n. SpellsStep numbers.now step.now writer.old writer.new n) }
+    ensures within { IfOk result (λ n. IfSome n (λ _. IsWithin writer.new)) }
 {
-    let found = trail.at(place);
-    match found.reason {
-        Reason::Clause(name) => spell_forced(alloc, trail, numbers, writer, place, found, name),
-        Reason::Site(site, from) => writer.put(
-            alloc,
-            found.group,
-            How::Inst(numbers[from], site),
-            &[found.lit],
-        ),
+    match &step.cause {
+        Cause::Clause(name, clause) => {
+            spell_forced(alloc, step, numbers, writer, *name, clause.lits())
+        }
+        Cause::Site(site, lower, lit) => {
+            let from = numbers.get(*lower, *lit);
+            writer.put(alloc, step.group, How::Inst(from, *site), &[step.lit])
+        }
     }
 }
 
-/// Writes the lines of a literal that a clause of the constraint of this name forces: the clause, and its resolvents with the
-/// denials of its other literals. The number of the literal's line, or None where the cost went over the budget.
-fn spell_forced<T: Trail>(
+/// Writes the lines of a step whose literal this clause of the constraint of this name forces: the clause, and its resolvents
+/// with the denials of its other literals. The number of the literal's line, or None where the cost went over the budget.
+fn spell_forced(
     alloc: Global,
-    trail: &T,
-    numbers: &[u32],
+    step: &Step,
+    numbers: &LitNumbers,
     writer: &mut Writer,
-    place: usize,
-    found: Found,
     name: ConstraintName,
+    clause: &[Lit],
 ) -> Result<Option<u32>, Memory>
-    requires trail { IsTrail (T.system trail.now) (T.scope trail.now) (T.finds trail.now) (T.clause_of trail.now) }
-    requires there { slice_get (T.finds trail.now) place ≡ Some found }
-    requires forced { IsForced (T.system trail.now) (T.scope trail.now) (T.finds trail.now) place found.group name (T.clause_of trail.now place) found.lit }
-    requires count { length numbers.now ≡ length (T.finds trail.now) }
-    requires spelled { IsSpelled (T.system trail.now) (T.scope trail.now) (T.finds trail.now) place writer.old.lines.items }
+    requires cause { step.now.cause ≡ Clause name clause.now }
+    requires room { IsRoomy numbers.now step.now }
     requires within { IsWithin writer.old }
-    requires numbered { DenialsAreNumbered (T.finds trail.now) numbers.now writer.old.lines.items (T.clause_of trail.now place) found.group found.lit }
-    ensures { IfOk result (λ n. Spells (T.system trail.now) (T.scope trail.now) (T.finds trail.now) place found.group found.lit writer.old writer.new n) }
+    ensures spells { IfOk result (λ n. SpellsStep numbers.now step.now writer.old writer.new n) }
+    ensures within { IfOk result (λ n. IfSome n (λ _. IsWithin writer.new)) }
 {
-    let clause = trail.clause(place);
-    let Some(first) = writer.put(alloc, found.group, How::Axiom(name), clause)? else {
+    let Some(first) = writer.put(alloc, step.group, How::Axiom(name), clause)? else {
         return Ok(None);
     };
     let mut number = first;
     let mut rest = clause.to_vec(alloc)?;
     for m in clause {
-        if *m != found.lit {
-            let denial = number_of(trail, numbers, found.group, m.negated());
+        if *m != step.lit {
+            let denial = numbers.get(step.group, m.negated());
             rest = without(alloc, &rest, *m)?;
-            match writer.put(alloc, found.group, How::Resolve(number, denial), &rest)? {
+            match writer.put(alloc, step.group, How::Resolve(number, denial), &rest)? {
                 None => return Ok(None),
                 Some(n) => number = n,
             }
         }
     }
     Ok(Some(number))
-}
-
-/// The number of the line of a literal of a group.
-fn number_of<T: Trail>(trail: &T, numbers: &[u32], group: u32, lit: Lit) -> u32
-    requires count { length numbers.now ≡ length (T.finds trail.now) }
-    requires there { StandsBefore (T.finds trail.now) (length (T.finds trail.now)) group lit }
-    ensures { HasNumber (T.finds trail.now) numbers.now group lit result }
-{
-    numbers[trail.place(group, lit)]
 }

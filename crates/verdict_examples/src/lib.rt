@@ -8,6 +8,8 @@
 #[cfg(test)]
 mod annotations;
 #[cfg(test)]
+mod certificates;
+#[cfg(test)]
 mod derivations;
 #[cfg(test)]
 mod programs;

@@ -132,7 +132,8 @@ fn check_set(rt: &impl Abort, alloc: Global, row: &Set) -> Result<(), Fail> {
     let program = program_of(alloc, row.source.as_bytes())?;
     let scope = whole(alloc);
     let sets = closures(alloc, &program, &scope)?;
-    assert!(rt; (row.group as usize) <= program.groups.items.len());
+    let groups = program.groups.items.len();
+    assert!(rt; (row.group as usize) <= groups);
     let given = lits(alloc, row.given)?;
     let closed = sets.closed(alloc, &program, &scope, row.group, &given)?;
     assert_eq!(rt;

@@ -6,7 +6,8 @@ use Rattle.verdict_meaning.specs.Systems.{System, root, count}
 use Rattle.unit_answers.specs.Sets.{UnitSet}
 use Rattle.unit_answers.specs.Layouts.{group_at}
 use Rattle.unit_answers.specs.Settled.{AreLower, AreSettled, IsOrdered, IsSettled}
-use Rattle.unit_answers.specs.Tables.{system_in, table_in}
+use Rattle.verdict_meaning.specs.Programs.{system_in}
+use Rattle.unit_answers.specs.Tables.{table_in}
 use Rattle.unit_answers.proofs.Rows.{tables_are, root_rows}
 use Rattle.unit_answers.proofs.Settling.{CallsLower, calls_lower, settled_none, settled_lower, settled_push, are_closures, are_within, are_reasoned}
 use Rattle.unit_answers.proofs.groups.closures.Goals as goal

@@ -1,5 +1,6 @@
 use Rattle.unit_answers.specs.Settled.{AreSettled}
-use Rattle.unit_answers.specs.Tables.{system_in, table_in}
+use Rattle.verdict_meaning.specs.Programs.{system_in}
+use Rattle.unit_answers.specs.Tables.{table_in}
 use Rattle.unit_answers.proofs.groups.closures.Given as goal
 
 abbrev pub invariant-loop-group : goal.invariant-loop-group

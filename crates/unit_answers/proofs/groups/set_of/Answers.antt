@@ -3,7 +3,8 @@ use Rattle.std.specs.List.{All}
 use Rattle.transfer_rules.specs.Names.{NamedClause}
 use Rattle.unit_answers.specs.Propagation.{IsWithin}
 use Rattle.unit_answers.specs.Settled.{IsSettled}
-use Rattle.unit_answers.specs.Tables.{system_in, table_in}
+use Rattle.verdict_meaning.specs.Programs.{system_in}
+use Rattle.unit_answers.specs.Tables.{table_in}
 use Rattle.unit_answers.proofs.groups.set_of.Goals as goal
 
 weaker : (rows : List NamedClause) (m n : ℕ) → m ≤ n → All (IsWithin m) rows → All (IsWithin n) rows

@@ -1,7 +1,7 @@
 use Rattle.std.proofs.Common.{◌≡◌, ℕ, length, Some, slice_get}
 use Rattle.unit_answers.specs.declared.layouts.Call.{Call}
 use Rattle.unit_answers.specs.Layouts.{IsCallAt}
-use Rattle.unit_answers.specs.Tables.{system_in}
+use Rattle.verdict_meaning.specs.Programs.{system_in}
 use Rattle.unit_answers.proofs.laying.group_layout.Given as goal
 
 abbrev pub invariant-loop-site : goal.invariant-loop-site

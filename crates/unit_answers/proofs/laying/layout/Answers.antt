@@ -3,7 +3,7 @@ use Rattle.std.proofs.lemmas.Bool.{cases_eq}
 use Rattle.std.proofs.lemmas.List.{length_push, get_or_push, get_or_append_left}
 use Rattle.verdict_meaning.specs.Systems.{root}
 use Rattle.unit_answers.specs.Layouts.{GroupNumbers, AreGroupNumbers, no_numbers}
-use Rattle.unit_answers.specs.Tables.{system_in}
+use Rattle.verdict_meaning.specs.Programs.{system_in}
 use Rattle.unit_answers.proofs.laying.layout.Goals as goal
 
 -- the numbers of one group more

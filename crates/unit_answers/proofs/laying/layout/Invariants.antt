@@ -1,6 +1,6 @@
 use Rattle.std.proofs.Common.{◌≡◌, ℕ, ◌<◌, length}
 use Rattle.unit_answers.specs.Layouts.{AreGroupNumbers, no_numbers}
-use Rattle.unit_answers.specs.Tables.{system_in}
+use Rattle.verdict_meaning.specs.Programs.{system_in}
 use Rattle.std.specs.Prelude.{slice_index_or}
 use Rattle.unit_answers.proofs.laying.layout.Given as goal
 

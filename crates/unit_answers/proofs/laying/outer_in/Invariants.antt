@@ -1,6 +1,6 @@
 use Rattle.std.proofs.Common.{◌≡◌, ◌+◌, take}
 use Rattle.std.specs.Prelude.{sum_by}
-use Rattle.unit_answers.specs.Tables.{system_in}
+use Rattle.verdict_meaning.specs.Programs.{system_in}
 use Rattle.unit_answers.proofs.laying.outer_in.Given as goal
 
 abbrev pub invariant-loop-member : goal.invariant-loop-member

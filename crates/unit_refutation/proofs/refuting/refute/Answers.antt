@@ -1,21 +1,18 @@
-use Rattle.std.proofs.Common.{◌≡◌, Bool, true, false, refl, sym, ap, subst, ◌∙◌}
-use Rattle.std.specs.Prelude.{MatchBool}
-use Rattle.unit_refutation.specs.Lines.{IsWhole, IsOver}
-use Rattle.unit_refutation.proofs.BoundLemmas.{whole_is, over_is}
+use Rattle.std.proofs.Common.{List, sym, subst}
+use Rattle.unit_refutation.specs.declared.steps.Step.{Step}
+use Rattle.unit_refutation.specs.Lines.{AreRoomy}
+use Rattle.unit_refutation.proofs.BoundLemmas.{refuted, spent}
 use Rattle.unit_refutation.proofs.refuting.refute.Goals as goal
+
+pub write-requires-clause-room : goal.write-requires-clause-room
+write-requires-clause-room g c = subst (λ (xs : List Step). AreRoomy c.trail.new.numbers xs) (sym c.deref.ensures.value) c.in_ok-steps.ensures.room
 
 pub returns-then-whole : goal.returns-then-whole
 returns-then-whole g c =
-    let s = g.T.Trail.system c.args.trail.now in
-    let U = g.T.Trail.scope c.args.trail.now in
-    let e = c.in_ok-whole.ensures in
-    whole_is s U (g.T.Trail.finds c.args.trail.now) (g.T.Trail.clause_of c.args.trail.now) c.args.budget c.write.new.writer c.requires e.words (e.budget ∙ c.new-writer.ensures.budget)
-    (subst (λ (b : Bool). MatchBool b (IsWhole s U c.write.new.writer) (IsOver s U c.write.new.writer)) c.if-whole.true e.answer)
+    refuted (g.T.Tables.system c.args.tables.now) (g.T.Tables.scope c.args.tables.now) c.in_ok-steps.steps.items c.deref.result.now c.args.clash.group c.lit_at-lit.result c.root-root.result c.args.budget
+    c.new-writer.result c.write.new.writer c.in_ok-whole.whole c.in_ok-whole.ensures c.deref.ensures.value c.in_ok-steps.ensures.ends c.root-root.ensures c.new-writer.ensures.words c.new-writer.ensures.budget c.if-whole.true
 
 pub returns : goal.returns
 returns g c =
-    let s = g.T.Trail.system c.args.trail.now in
-    let U = g.T.Trail.scope c.args.trail.now in
-    let e = c.in_ok-whole.ensures in
-    over_is s U (g.T.Trail.finds c.args.trail.now) (g.T.Trail.clause_of c.args.trail.now) c.args.budget c.write.new.writer c.requires e.words (e.budget ∙ c.new-writer.ensures.budget)
-    (subst (λ (b : Bool). MatchBool b (IsWhole s U c.write.new.writer) (IsOver s U c.write.new.writer)) c.if-whole.false e.answer)
+    spent (g.T.Tables.system c.args.tables.now) (g.T.Tables.scope c.args.tables.now) c.in_ok-steps.steps.items c.deref.result.now c.args.clash.group c.lit_at-lit.result c.root-root.result c.args.budget
+    c.new-writer.result c.write.new.writer c.in_ok-whole.whole c.in_ok-whole.ensures c.deref.ensures.value c.in_ok-steps.ensures.ends c.root-root.ensures c.new-writer.ensures.words c.new-writer.ensures.budget c.if-whole.false

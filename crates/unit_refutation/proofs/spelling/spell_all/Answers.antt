@@ -1,49 +1,45 @@
-use Rattle.std.proofs.Common.{◌≡◌, ◌<◌, ◌∷◌, ℕ, List, length, set, Option, Some, None, refl, arith, rules, ap, sym, subst, ◌∙◌, slice_get}
-use Rattle.unit_refutation.specs.declared.trails.Found.{Found}
-use Rattle.unit_refutation.specs.Lines.{PremisesAreNumbered, Spells}
-use Rattle.unit_refutation.proofs.LineLemmas.{grows_none}
-use Rattle.unit_refutation.proofs.StepLemmas.{spelled_none, numbered_none, stage_premises, stage_more, stage_on, stage_over}
+use Rattle.std.proofs.Common.{◌≡◌, ℕ, length, Option, Some, refl, arith, subst, slice_get}
+use Rattle.std.specs.Prelude.{IfSome}
+use Rattle.std.proofs.lemmas.Option.{slice_get_read}
+use Rattle.unit_refutation.specs.Lines.{IsWithin, SpellsStep}
+use Rattle.unit_refutation.proofs.NumberLemmas.{room_kept}
+use Rattle.unit_refutation.proofs.StepLemmas.{stage_more, stage_over, stage_last, roomy_kept}
 use Rattle.unit_refutation.proofs.spelling.spell_all.Goals as goal
-use Rattle.unit_refutation.proofs.spelling.spell_all.Goals.{then-marks-place+in_ok-spell+in-Some, else-marks-place}
 
-pub loop-place-init : goal.loop-place-init
-loop-place-init g c = record {
-  spelled = spelled_none _ _ _ _ c.requires.none;
-  within = c.requires.within;
-  grows = grows_none _ _;
-  count = search rules;
-  numbered = numbered_none _ _ _ _;
-}
+pub spell-requires-clause-room : goal.spell-requires-clause-room
+spell-requires-clause-room c =
+    let steps = c.args.steps.now in
+    c.loop-step.invariant.room c.loop-step.step-index c.step-item.result (slice_get_read steps (length steps) c.loop-step.step-index c.step-item.result refl (omega arith) c.step-item.is)
 
-pub spell-requires-clause-numbered : goal.spell-requires-clause-numbered
-spell-requires-clause-numbered g c =
-    let trail = g.T.Trail.finds c.args.trail.now in
-    let clause_of = g.T.Trail.clause_of c.args.trail.now in
-    let place = c.loop-place.place in
-    λ f at. subst (λ (ns : List ℕ). PremisesAreNumbered trail ns c.loop-place.writer.lines.items (clause_of place) f.group f.lit f.reason) (sym c.deref.ensures.value)
-    (stage_premises _ _ trail clause_of c.args.marks.now place c.args.writer.now c.loop-place.writer c.loop-place.numbers.items _ f c.requires.closed c.loop-place.invariant (omega arith) c.if-marks-place.true at)
+pub returns-in-None-clause-spells : goal.returns-in-None-clause-spells
+returns-in-None-clause-spells c =
+    let steps = c.args.steps.now in
+    let i = c.loop-step.step-index in
+    let step = c.step-item.result in
+    let at : slice_get steps i ≡ Some step = slice_get_read steps (length steps) i step refl (omega arith) c.step-item.is in
+    let spells = subst (λ (n : Option ℕ). SpellsStep c.loop-step.numbers step c.loop-step.writer c.spell.new.writer n) c.in-None.is c.in_ok-spell.ensures.spells in
+    λ s U h. stage_over s U steps i c.args.writer.now c.loop-step.writer c.spell.new.writer c.loop-step.numbers c.loop-step.numbers step h at (c.loop-step.invariant.stage s U h) spells
 
-pub returns-in-None : goal.returns-in-None
-returns-in-None g c =
-    let s = g.T.Trail.system c.args.trail.now in
-    let U = g.T.Trail.scope c.args.trail.now in
-    let trail = g.T.Trail.finds c.args.trail.now in
-    let place = c.loop-place.place in
-    stage_over s U trail c.args.marks.now place c.args.writer.now c.loop-place.writer c.spell.new.writer c.loop-place.numbers.items c.loop-place.invariant (omega arith)
-    (λ f at. subst (λ (n : Option ℕ). Spells s U trail place f.group f.lit c.loop-place.writer c.spell.new.writer n) c.in-None.is (c.in_ok-spell.ensures f at))
+pub set-requires : goal.set-requires
+set-requires c =
+    let steps = c.args.steps.now in
+    (c.loop-step.invariant.room c.loop-step.step-index c.step-item.result (slice_get_read steps (length steps) c.loop-step.step-index c.step-item.result refl (omega arith) c.step-item.is)).own
 
-pub loop-place-preserved : goal.loop-place-preserved
-loop-place-preserved g c =
-    let s = g.T.Trail.system c.args.trail.now in
-    let U = g.T.Trail.scope c.args.trail.now in
-    let trail = g.T.Trail.finds c.args.trail.now in
-    let place = c.loop-place.place in
-    elim c.if-marks-place.branch [
-      | then-marks-place+in_ok-spell+in-Some w ↦
-          rw (w.writer-is, w.numbers-is)
-          (stage_more s U trail c.args.marks.now place c.args.writer.now c.loop-place.writer w.spell.new.writer c.loop-place.numbers.items _ w.in-Some.number c.loop-place.invariant (omega arith) (search rules)
-          (λ f at. subst (λ (n : Option ℕ). Spells s U trail place f.group f.lit c.loop-place.writer w.spell.new.writer n) w.in-Some.is (w.in_ok-spell.ensures f at)))
-      | else-marks-place w ↦
-          rw (w.writer-is, w.numbers-is)
-          (stage_on s U trail c.args.marks.now place c.args.writer.now c.loop-place.writer c.loop-place.numbers.items _ c.loop-place.invariant w.if-marks-place.false)
-    ]
+pub loop-step-preserved : goal.loop-step-preserved
+loop-step-preserved c =
+    let steps = c.args.steps.now in
+    let i = c.loop-step.step-index in
+    let step = c.step-item.result in
+    let at : slice_get steps i ≡ Some step = slice_get_read steps (length steps) i step refl (omega arith) c.step-item.is in
+    let spells = subst (λ (n : Option ℕ). SpellsStep c.loop-step.numbers step c.loop-step.writer c.spell.new.writer n) c.in-Some.is c.in_ok-spell.ensures.spells in
+    let room = c.loop-step.invariant.room in
+    rw c.set.ensures (record {
+      within = subst (λ (n : Option ℕ). IfSome n (λ (k : ℕ). IsWithin c.spell.new.writer)) c.in-Some.is c.in_ok-spell.ensures.within;
+      room = roomy_kept c.loop-step.numbers step.group c.in-Some.number step.lit steps room;
+      kept = λ g l r. room_kept c.loop-step.numbers step.group g step.lit l c.in-Some.number (c.loop-step.invariant.kept g l r);
+      stage = λ s U h. stage_more s U steps i c.args.writer.now c.loop-step.writer c.spell.new.writer c.loop-step.numbers step c.in-Some.number h at (room i step at).own (c.loop-step.invariant.stage s U h) spells;
+    })
+
+pub returns-clause-spells : goal.returns-clause-spells
+returns-clause-spells c =
+    λ s U h. stage_last s U c.args.steps.now c.loop-step.step-index c.args.writer.now c.loop-step.writer c.loop-step.numbers (omega arith) c.loop-step.invariant.within (c.loop-step.invariant.stage s U h)

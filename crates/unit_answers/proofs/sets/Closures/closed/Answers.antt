@@ -8,7 +8,8 @@ use Rattle.transfer_rules.specs.Names.{NamedClause, in_scope}
 use Rattle.verdict_meaning.specs.Systems.{System}
 use Rattle.verdict_meaning.specs.Closures.{Closed}
 use Rattle.unit_answers.specs.Sets.{IsSetOf}
-use Rattle.unit_answers.specs.Tables.{system_in, IsTableOf}
+use Rattle.verdict_meaning.specs.Programs.{system_in}
+use Rattle.unit_answers.specs.Tables.{IsTableOf}
 use Rattle.unit_answers.specs.Trails.{Trail, known}
 use Rattle.unit_answers.specs.Reopened.{IsReopened}
 use Rattle.unit_answers.proofs.Rows.{tables_are, root_rows}
