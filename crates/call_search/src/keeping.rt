@@ -1,10 +1,10 @@
 //! Instances that are kept for later use.
 
-ghost use Rattle.std.specs.Prelude.{◌≡◌, ◌<◌, ◌≤◌, ◌+◌, ◌++◌, ◌∷◌, ℕ, Bool, true, ⊤, [], List, MatchOption, OnOk, IfOk, length, slice_get, Some};
+ghost use Rattle.std.specs.Prelude.{◌≡◌, ◌<◌, ◌≤◌, ◌+◌, ◌++◌, ◌∷◌, ℕ, Bool, true, [], List, MatchOption, OnOk, IfOk, length, slice_get, Some};
 ghost use Rattle.zo_core.specs.Truth.{clause_true, holds};
 ghost use Rattle.verdict_meaning.specs.Certificates.{bit_at};
 ghost use Rattle.call_search.specs.declared.entries.Entry.{Entry};
-ghost use Rattle.call_search.specs.Entries.{IsFrom, AreFewer, Answers, AreSized, in_group, AreJoined, AreTrueOnly, AreKeptBy};
+ghost use Rattle.call_search.specs.Entries.{IsFrom, AreFewer, Answers, NoneAnswers, AreSized, in_group, AreJoined, AreTrueOnly, AreKeptBy};
 
 use crate::entries::{Entries, Entry, find, listed};
 use crate::groups::Groups;
@@ -32,7 +32,7 @@ pub fn take<G: Groups>(
 ) -> Option<Entry>
     requires group { callee.group < length table.old.items }
     requires sized { AreSized (G.system groups.now) table.old.items }
-    ensures entry { MatchOption result ⊤ (λ e. Answers (G.system groups.now) e callee face.now × IsFrom table.old.items callee.group e) }
+    ensures entry { MatchOption result (NoneAnswers (G.system groups.now) (in_group table.old.items callee.group) callee face.now) (λ e. Answers (G.system groups.now) e callee face.now × IsFrom table.old.items callee.group e) }
     ensures fewer { AreFewer table.old.items table.new.items }
 {
     match find(groups, listed(table, callee.group), callee, face) {
