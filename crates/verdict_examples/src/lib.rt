@@ -17,3 +17,5 @@ mod programs;
 mod propagation;
 #[cfg(test)]
 mod rule_table;
+#[cfg(test)]
+mod unit_refutations;

@@ -1,10 +1,8 @@
 // What propagation alone gives: sets of literals, contradictions, and the numbers of groups.
-use crate::programs::program_of;
-use conflict_proof::{ConstraintName, Names};
+use crate::programs::{program_of, whole};
 use std::alloc::Global;
 use std::process::Abort;
 use std::test::Fail;
-use transfer_rules::{Program, Scope};
 use unit_answers::{Contradiction, closures, contradiction, layout};
 use worked_examples::{CONSTRUCTOR, JOIN, KEPT_CYCLE, LIST};
 use zo_core::Lit;
@@ -83,30 +81,6 @@ const SETS: [Set; 5] = [
         lits: &[1, -1, 2, 3],
     },
 ];
-
-/// The scope of all names.
-fn whole(alloc: Global) -> Scope {
-    let after = ConstraintName {
-        proc: 0,
-        place: 0,
-        edge: 0,
-        rule: 0,
-        slot: 0,
-        field: 0,
-        other: 0,
-    };
-    let keep = Names {
-        items: Vec::new(alloc),
-    };
-    let without = Names {
-        items: Vec::new(alloc),
-    };
-    Scope {
-        keep,
-        after,
-        without,
-    }
-}
 
 /// The numbers of literals.
 fn numbers(alloc: Global, lits: &[Lit]) -> Result<Vec<i32>, Fail> {
