@@ -1,6 +1,7 @@
 // Inputs that are large and within all limits: no call may answer them with want of memory.
 use crate::harness::parsed;
 use crate::runs::{Machine, choice};
+use crate::sources::MOST_BYTES;
 use c_token::tokens;
 use c_tree::StmtForm;
 use clouseau_core::typed_source;
@@ -87,7 +88,11 @@ fn empty_statements(alloc: Global, times: usize) -> Result<String, Fail> {
 
 fn token_count(alloc: Global, times: usize) -> Result<usize, Fail> {
     let source = empty_statements(alloc, times)?;
-    Ok(tokens(alloc, source.as_bytes())?.len())
+    let bytes = source.as_bytes();
+    if bytes.len() > MOST_BYTES {
+        return Err(Fail::from("too long"));
+    }
+    Ok(tokens(alloc, bytes)?.len())
 }
 
 fn statement_count(alloc: Global, times: usize) -> Result<usize, Fail> {
@@ -112,7 +117,11 @@ fn slot_count(alloc: Global, times: usize) -> Result<usize, Fail> {
         source.push_str(format!(in alloc; "int a{number}; ")?.as_str())?;
     }
     source.push_str("return a0; }")?;
-    let Ok(typed) = typed_source(alloc, source.as_bytes()) else {
+    let bytes = source.as_bytes();
+    if bytes.len() > MOST_BYTES {
+        return Err(Fail::from("too long"));
+    }
+    let Ok(typed) = typed_source(alloc, bytes) else {
         return Err(Fail::from("no typed tree"));
     };
     let procs = typed.procs.items.as_slice();
@@ -133,12 +142,17 @@ fn cell_count(alloc: Global, times: usize) -> Result<usize, Fail> {
             return Err(Fail::from("no step"));
         }
     }
+    Ok(first_cells(&machine))
+}
+
+/// How many cells the first object has, if there is one.
+fn first_cells(machine: &Machine) -> usize {
     let objects = machine.state.heap.items.as_slice();
     let Some(object) = objects.first() else {
-        return Err(Fail::from("no object"));
+        return 0;
     };
     let cells = object.cells.items.as_slice();
-    Ok(cells.len())
+    cells.len()
 }
 
 /// Lets a procedure call itself until so many frames stand.
@@ -165,8 +179,12 @@ fn word_count(alloc: Global, times: usize) -> Result<usize, Fail> {
 
 /// How many clauses a sum over the greatest unknown has; they end with its negation.
 fn clause_count(rt: &impl Abort, alloc: Global, greatest: u32) -> Result<usize, Fail> {
+    if greatest == 0 || greatest > 2_147_483_647 {
+        return Err(Fail::from("no unknown"));
+    }
     let sum = Form::Sum(Var(2_000_000_000), Var(2_147_483_646), Var(greatest));
     let clauses = sum.clauses(alloc)?;
+    assert_eq!(rt; clauses.len(), 4);
     let last = [Lit(2_000_000_000), Lit(2_147_483_646), Lit(-2_147_483_647)];
     assert_eq!(rt; clauses[3].lits(), last.as_slice());
     Ok(clauses.len())
