@@ -2,11 +2,11 @@
 use crate::programs::program_of;
 use annotate::{annotation, conflict_text, slot_text};
 use conflict_proof::{ConstraintName, Names};
+use example_sources::{CONSTRUCTOR, JOIN, KEPT_CYCLE, LIST, MUTUAL, TWICE};
 use own_cert::{Bits, Certificate, Instance, Instances, Numbers, PlaceBits, Rows};
 use std::alloc::Global;
 use std::test::Fail;
 use transfer_rules::Program;
-use worked_examples::{CONSTRUCTOR, JOIN, KEPT_CYCLE, LIST, MUTUAL, TWICE};
 
 /// An instance: its group, its entry, its interface as zeros and ones, the slots of procedures that own at all places,
 /// and those that own at one place. Nothing else owns or is open.

@@ -5,13 +5,13 @@ ghost use Rattle.verdict_meaning.specs.Programs.{system_of};
 use crate::programs::program_of;
 use cert_checker::{Owned, check_certificate, owned_first, owned_step};
 use conflict_proof::{BadLine, CheckError, Reason};
+use example_sources::KEPT_CYCLE;
 use heap_meaning::{Choice, Writes};
 use own_cert::{Certificate, read};
 use std::alloc::Global;
 use std::process::Abort;
 use std::test::Fail;
 use transfer_rules::Program;
-use worked_examples::KEPT_CYCLE;
 
 /// Which text is altered.
 #[derive(Clone, Copy)]

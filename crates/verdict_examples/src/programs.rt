@@ -1,10 +1,10 @@
 // Programs of sources.
 use clouseau_core::typed_source;
 use conflict_proof::{ConstraintName, Names};
+use example_sources::MOST_BYTES;
 use std::alloc::Global;
 use std::test::Fail;
 use transfer_rules::{Program, Scope, program};
-use worked_examples::MOST_BYTES;
 
 /// The program of a source that breaks no rule and is within the limits.
 pub fn program_of(alloc: Global, source: &[u8]) -> Result<Program, Fail> {

@@ -1,10 +1,10 @@
 // What propagation alone gives: sets of literals, contradictions, and the numbers of groups.
 use crate::programs::{program_of, whole};
+use example_sources::{CONSTRUCTOR, JOIN, KEPT_CYCLE, LIST};
 use std::alloc::Global;
 use std::process::Abort;
 use std::test::Fail;
 use unit_answers::{Contradiction, closures, contradiction, layout};
-use worked_examples::{CONSTRUCTOR, JOIN, KEPT_CYCLE, LIST};
 use zo_core::Lit;
 
 const FREED: &str =

@@ -3,10 +3,10 @@ ghost use Rattle.std.specs.Prelude.{◌≡◌, ◌<◌, length, nat_lt};
 
 use crate::programs::program_of;
 use conflict_proof::{ConstraintName, Names};
+use example_sources::KEPT_CYCLE;
 use std::alloc::Global;
 use std::test::Fail;
 use transfer_rules::{ClauseTable, Program, Scope, clauses_of, group_clauses, names_of};
-use worked_examples::KEPT_CYCLE;
 use zo_core::{Clause, Lit};
 
 /// The numbers of a name: procedure, place, edge, rule, slot, field and other.

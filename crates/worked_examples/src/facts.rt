@@ -4,7 +4,7 @@ ghost use Rattle.flow_graph.specs.FlowGraph.{flow_of};
 ghost use Rattle.path_facts.specs.Tables.{AreFactsOf};
 
 use crate::harness::graph_of;
-use crate::sources::{CONSTRUCTOR, JOIN, KEPT_CYCLE, LIST};
+use example_sources::{CONSTRUCTOR, JOIN, KEPT_CYCLE, LIST};
 use flow_graph::Graph;
 use path_facts::{Facts, facts, path_laws};
 use std::alloc::Global;

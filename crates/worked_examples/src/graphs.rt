@@ -2,7 +2,7 @@
 ghost use Rattle.std.specs.Prelude.{◌<◌};
 
 use crate::harness::graph_of;
-use crate::sources::{CONSTRUCTOR, JOIN, KEPT_CYCLE, LIST};
+use example_sources::{CONSTRUCTOR, JOIN, KEPT_CYCLE, LIST};
 use flow_graph::Graph;
 use std::alloc::{AllocError, Global};
 use std::test::Fail;

@@ -1,6 +1,6 @@
 // Call groups of sources.
 use crate::harness::graph_of;
-use crate::sources::{MUTUAL, TWICE};
+use example_sources::{MUTUAL, TWICE};
 use recursion_groups::groups;
 use std::alloc::Global;
 use std::process::Abort;

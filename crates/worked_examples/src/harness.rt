@@ -1,11 +1,11 @@
 // Runs of the top call over one source in memory.
 ghost use Rattle.std.specs.Prelude.{◌<◌};
 
-use crate::sources::MOST_BYTES;
 use c_parser::{ParseError, parse};
 use c_token::tokens;
 use c_tree::Tree;
 use clouseau_core::{Words, clouseau, typed_source};
+use example_sources::MOST_BYTES;
 use flow_graph::{Graph, build};
 use io_edge::{Bytes, MemFiles, MemSink, NamedFile, NamedFiles, Numbers};
 use std::alloc::{AllocError, Global};

@@ -1,10 +1,10 @@
 // Inputs that are large and within all limits: no call may answer them with want of memory.
 use crate::harness::parsed;
 use crate::runs::{Machine, choice};
-use crate::sources::MOST_BYTES;
 use c_token::tokens;
 use c_tree::StmtForm;
 use clouseau_core::typed_source;
+use example_sources::MOST_BYTES;
 use heap_meaning::Stepped;
 use lit_region::Region;
 use std::alloc::Global;

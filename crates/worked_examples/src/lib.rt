@@ -1,6 +1,6 @@
 //! Worked examples: whole runs of the program over files in memory, as tables.
 //!
-//! This crate has only tests, and the sources that they share with `verdict_examples`. What they expect is worked out by hand from the rules and the texts that
+//! This crate has only tests. What they expect is worked out by hand from the rules and the texts that
 //! docs/ describes, and never copied from what the program prints.
 #![tactic(auto)]
 
@@ -28,7 +28,6 @@ mod run_table;
 mod runs;
 #[cfg(test)]
 mod shapes;
-mod sources;
 #[cfg(test)]
 mod trees;
 #[cfg(test)]
@@ -37,5 +36,3 @@ mod type_rules;
 mod unknowns;
 #[cfg(test)]
 mod value_table;
-
-pub use sources::{CONSTRUCTOR, JOIN, KEPT_CYCLE, LIST, MOST_BYTES, MUTUAL, TWICE};

@@ -1,7 +1,7 @@
 // Every prefix of the list source.
 use crate::harness::{parsed, run};
-use crate::sources::LIST;
 use c_parser::ParseError;
+use example_sources::LIST;
 use std::alloc::Global;
 use std::test::Fail;
 

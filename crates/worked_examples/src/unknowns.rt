@@ -2,8 +2,8 @@
 ghost use Rattle.std.specs.Prelude.{◌<◌};
 
 use crate::harness::graph_of;
-use crate::sources::{MUTUAL, TWICE};
 use c_types::LimitKind;
+use example_sources::{MUTUAL, TWICE};
 use flow_graph::Graph;
 use owner_vars::{NumberError, Numbering, Site, Sites, fields, number, number_root, sites};
 use recursion_groups::groups;

@@ -1,4 +1,7 @@
-// Sources that several examples use.
+//! Sources that several examples use.
+//!
+//! This crate has constants alone. `worked_examples` and `verdict_examples` stand on it.
+#![tactic(auto)]
 
 /// The most bytes that a source may have.
 pub const MOST_BYTES: usize = 4_194_304;
