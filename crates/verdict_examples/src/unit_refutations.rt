@@ -39,7 +39,7 @@ const ANSWERS: [(&str, u32, Answer); 7] = [
     (MADE, 1, Over(1)),
 ];
 
-fn answer(alloc: Global, source: &str, budget: u32) -> Result<Answer, Fail> {
+fn answer_of(alloc: Global, source: &str, budget: u32) -> Result<Answer, Fail> {
     let program = program_of(alloc, source.as_bytes())?;
     let scope = whole(alloc);
     let Ok(sets) = closures(alloc, &program, &scope) else {
@@ -55,14 +55,18 @@ fn answer(alloc: Global, source: &str, budget: u32) -> Result<Answer, Fail> {
     })
 }
 
-fn answers(rt: &impl Abort, alloc: Global, cases: &[(&str, u32, Answer)]) -> Result<(), Fail> {
+fn check_answers(
+    rt: &impl Abort,
+    alloc: Global,
+    cases: &[(&str, u32, Answer)],
+) -> Result<(), Fail> {
     for case in cases {
-        assert_eq!(rt; answer(alloc, case.0, case.1)?, case.2);
+        assert_eq!(rt; answer_of(alloc, case.0, case.1)?, case.2);
     }
     Ok(())
 }
 
 #[test]
 fn refutes_under_budgets(rt: HostRuntime) -> Result<(), Fail> {
-    answers(&rt, rt.alloc(), &ANSWERS)
+    check_answers(&rt, rt.alloc(), &ANSWERS)
 }
