@@ -9,7 +9,7 @@ use Rattle.verdict_meaning.specs.Systems.{System, root, callee, callees, callee_
 use Rattle.verdict_meaning.specs.Solutions.{phi_by, sigma_by}
 use Rattle.verdict_meaning.specs.Certificates.{bit_at}
 use Rattle.verdict_meaning.specs.Derivations.{cost_of, InstLinesAreTrue}
-use Rattle.call_search.proofs.Bits.{length-by, length-numbers, get_at}
+use Rattle.verdict_meaning.proofs.Bits.{length-by, length-numbers, get_at}
 use Rattle.call_search.specs.declared.ledger.Ledger.{Ledger}
 use Rattle.call_search.specs.declared.entries.Entry.{Entry}
 use Rattle.call_search.specs.Shapes.{IsShaped}

@@ -18,7 +18,7 @@ use Rattle.verdict_meaning.specs.Systems.{System, root, callee, callees, count, 
 use Rattle.verdict_meaning.specs.Solutions.{phi_by, sigma_by}
 use Rattle.verdict_meaning.specs.Certificates.{bit_at}
 use Rattle.verdict_meaning.specs.Derivations.{line_at, line_cost, Carried, paired, at_site, carried_number, with_number, carried_before, carried, IsRightLine}
-use Rattle.call_search.proofs.Bits.{length-by, length-numbers}
+use Rattle.verdict_meaning.proofs.Bits.{length-by, length-numbers}
 use Rattle.verdict_meaning.specs.Laws.{LocalLinesAreTrue}
 use Rattle.call_search.specs.declared.ledger.Ledger.{Ledger}
 use Rattle.call_search.specs.Shapes.{IsShaped, before_own, before_site, stated}

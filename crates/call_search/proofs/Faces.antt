@@ -7,7 +7,7 @@ use Rattle.std.proofs.lemmas.List.Sums.{sum_by_more, sum_by-take-le}
 use Rattle.verdict_meaning.specs.declared.callee.Callee.{Callee}
 use Rattle.verdict_meaning.specs.Systems.{System, root, members, callee, callees, callee_parts, nobody, count, parts_before}
 use Rattle.verdict_meaning.specs.Certificates.{bit_at}
-use Rattle.call_search.proofs.Bits.{bits_at, part_within}
+use Rattle.verdict_meaning.proofs.Bits.{bits_at, part_within}
 use Rattle.call_search.specs.Shapes.{IsThere, before_own, before_site}
 
 pub own_within : (s : System) (c : Callee) → IsThere s c → before_own s c + s.parts c.proc ≤ count s c.group

@@ -15,8 +15,8 @@ use Rattle.verdict_meaning.specs.declared.callee.Callee.{Callee}
 use Rattle.verdict_meaning.specs.Systems.{System, root, members, callee, callees, callee_parts, nobody, count, parts_before}
 use Rattle.verdict_meaning.specs.Solutions.{IsLocal, phi_by, pi_by, sigma_by}
 use Rattle.verdict_meaning.specs.Certificates.{bit_at, part_of, face_of, face_in, site_bits, bits_at_places, bits_of, assignment_of, AreRows, IsSite, IsGoodInstance, Agree, IsInstanceOf, IsGoodIn, IsNamed, HasNoNeedless}
-use Rattle.call_search.proofs.Bits.{part_within, pi_is_part, get_at, length-by, length-numbers}
-use Rattle.call_search.proofs.Bits.{root_many, root_callee}
+use Rattle.verdict_meaning.proofs.Bits.{part_within, pi_is_part, get_at, length-by, length-numbers}
+use Rattle.verdict_meaning.proofs.Bits.{root_many, root_callee}
 use Rattle.call_search.specs.declared.entries.Entry.{Entry}
 use Rattle.call_search.specs.Shapes.{IsShaped, before_site}
 use Rattle.call_search.specs.Entries.{in_group, own_face, IsKept, Answers, IsAnswered, IsAskedAt, IsAskedBy}

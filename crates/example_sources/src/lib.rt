@@ -1,6 +1,6 @@
 //! Sources that several examples use.
 //!
-//! This crate has constants alone. `worked_examples` and `verdict_examples` stand on it.
+//! This crate has constants alone; the crates of examples stand on it.
 #![tactic(auto)]
 
 /// The most bytes that a source may have.

@@ -259,6 +259,10 @@ body_of g ts members k = record { graph = g; facts = ts; members = members; proc
 abbrev pub body_constraints : FlowGraph → FactTables → List ℕ → ℕ → List Constraint
 body_constraints g ts members k = let b = body_of g ts members k in proc_constraints (sight b) (setting b)
 
+-- those of one place of a procedure
+abbrev pub place_constraints : FlowGraph → FactTables → List ℕ → ℕ → ℕ → List Constraint
+place_constraints g ts members k p = let b = body_of g ts members k in constraints_at (sight b) (setting b) p
+
 -- all constraints of the call group of these procedures
 abbrev pub constraints : FlowGraph → FactTables → List ℕ → List Constraint
 constraints g ts members = flat_map (body_constraints g ts members) members

@@ -1,13 +1,14 @@
 ghost use Rattle.std.specs.Prelude.{◌≡◌, ◌<◌, ◌++◌, length, map, Some, None, true, MatchOption, IfOk, OnOk};
 ghost use Rattle.std.specs.List.{Contains};
 ghost use Rattle.flow_graph.specs.Fits.{is_in};
+ghost use Rattle.flow_graph.specs.FlowGraph.{flow_of};
 ghost use Rattle.transfer_rules.specs.Names.{name_of, names, clauses_in, clauses_of_name, group_clauses};
 ghost use Rattle.transfer_rules.specs.Programs.{group_at};
-ghost use Rattle.transfer_rules.specs.Rules.{body_of, body_constraints};
+ghost use Rattle.transfer_rules.specs.Rules.{body_of, body_constraints, place_constraints};
 
 use crate::body::Body;
 use crate::find::clauses_at;
-use crate::group::{push_names_of, with_clauses_of};
+use crate::group::{push_names_of, with_clauses_at, with_clauses_of};
 use crate::parts::Program;
 use crate::same::is_in;
 use crate::scene::Scene;
@@ -116,6 +117,28 @@ pub fn group_clauses(
         table = with_clauses_in(alloc, table, program, group, *proc, scope)?;
     }
     Ok(table)
+}
+
+/// The clauses of the constraints of one place of a group's procedure that are in force in a scope, in order, each with the name
+/// of its constraint. The procedure is of the group and has the place. The clauses of a group are those of its places, procedure
+/// by procedure. Its one refusal is want of memory.
+pub fn place_clauses(
+    alloc: Global,
+    program: &Program,
+    group: u32,
+    proc: u32,
+    place: u32,
+    scope: &Scope,
+) -> Result<ClauseTable, Memory>
+    requires group { group < length program.now.groups }
+    requires member { Contains (group_at program.now.groups group) proc }
+    requires place { place < length (flow_of program.now.graph proc).places }
+    ensures { IfOk result (λ t. t
+        ≡ clauses_in scope.now (place_constraints program.now.graph program.now.facts (group_at program.now.groups group) proc place)) }
+{
+    program.law();
+    let body = body_of(program, group, proc);
+    with_clauses_at(alloc, ClauseTable::new(alloc), &body, place, scope)
 }
 
 /// The clauses of a group's constraint of this name; none where the group has no such constraint. The group exists. It takes

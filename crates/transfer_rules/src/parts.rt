@@ -63,7 +63,7 @@ impl Program {
     }
 
     /// The procedures of a group, ascending.
-    pub(crate) fn members(&self, group: u32) -> &[u32]
+    pub fn members(&self, group: u32) -> &[u32]
         requires { group < length self.now.groups }
         ensures { result.now ≡ group_at self.now.groups group }
     {
@@ -71,7 +71,7 @@ impl Program {
     }
 
     /// The numbers of a group's unknowns.
-    pub(crate) fn numbering(&self, group: u32) -> &Numbering
+    pub fn numbering(&self, group: u32) -> &Numbering
         requires { group < length self.now.groups }
         ensures { result.now ≡ unknowns self.now.graph (group_at self.now.groups group) }
     {
@@ -79,7 +79,7 @@ impl Program {
     }
 
     /// The sites of a group.
-    pub(crate) fn sites(&self, group: u32) -> &Sites
+    pub fn sites(&self, group: u32) -> &Sites
         requires { group < length self.now.groups }
         ensures { result.now ≡ sites self.now.graph (group_at self.now.groups group) }
     {
@@ -102,7 +102,7 @@ impl Program {
     }
 
     /// The pointer fields.
-    pub(crate) fn fields(&self) -> &Fields
+    pub fn fields(&self) -> &Fields
         ensures { result.now ≡ structs_of self.now.graph }
     {
         &self.index.fields

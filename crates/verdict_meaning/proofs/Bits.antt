@@ -7,7 +7,8 @@ use Rattle.std.specs.Prelude.{nat_eq}
 use Rattle.std.specs.Prelude.{sum_by}
 use Rattle.std.proofs.lemmas.List.Sums.{sum_by-cons}
 use Rattle.std.specs.List.{range_with_len}
-use Rattle.verdict_meaning.specs.Systems.{System, members, parts_before, pi_numbers}
+use Rattle.verdict_meaning.specs.declared.callee.Callee.{Callee}
+use Rattle.verdict_meaning.specs.Systems.{System, root, members, first, firsts, callee, callees, nobody, parts_before, pi_numbers}
 use Rattle.verdict_meaning.specs.Certificates.{bit_at, part_of}
 
 pub length-numbers : (n k : ℕ) → length (range_with_len n k) ≡ k
@@ -82,3 +83,27 @@ pub get_within : {X : Type 0} (xs : List X) (k : ℕ) (x : X) → slice_get xs k
 get_within [] k x e = cc
 get_within (y ∷ xs) zero x e = omega arith
 get_within (y ∷ xs) (suc k) x e = let h = get_within xs k x e in omega arith
+
+-- the root's callees
+
+at_root : (s : System) → callees s (root s) ≡ firsts 0 s.groups
+at_root s = pick (nat_eq (root s) (root s)) (eq-eqb (root s) (root s) refl)
+  where
+    pick : (b : Bool) → b ≡ true → cond b (firsts 0 s.groups) (s.sites (root s)) ≡ firsts 0 s.groups
+    pick true e = refl
+    pick false e = cc
+
+length-firsts : (g : ℕ) (gs : List (List ℕ)) → length (firsts g gs) ≡ length gs
+length-firsts g [] = refl
+length-firsts g (ms ∷ gs) = ap suc (length-firsts (suc g) gs)
+
+get-firsts : (g : ℕ) (gs : List (List ℕ)) (k n : ℕ) → k < length gs → n ≡ g + k → get_or (firsts g gs) k nobody ≡ record { proc = get_or (get_or gs k []) 0 0; group = n }
+get-firsts g [] k n lt e = absurd (omega arith)
+get-firsts g (ms ∷ gs) zero n lt e = let h : g ≡ n = omega arith in ap (λ m. let c : Callee = record { proc = get_or ms 0 0; group = m } in c) h
+get-firsts g (ms ∷ gs) (suc k) n lt e = get-firsts (suc g) gs k n (omega arith) (omega arith)
+
+pub root_many : (s : System) → length (callees s (root s)) ≡ root s
+root_many s = ap length (at_root s) ∙ length-firsts 0 s.groups
+
+pub root_callee : (s : System) (k : ℕ) → k < root s → callee s (root s) k ≡ record { proc = first s k; group = k }
+root_callee s k lt = ap (λ l. get_or l k nobody) (at_root s) ∙ get-firsts 0 s.groups k k lt (omega arith)

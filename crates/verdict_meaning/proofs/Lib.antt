@@ -1,4 +1,4 @@
-mod Bits
+pub mod Bits
 mod Follow
 pub mod Good
 mod Refuting
