@@ -1,8 +1,8 @@
--- False constraints: those that the runs of the table show, instance by instance.
-use Rattle.std.proofs.Common.{◌≡◌, ℕ, zero, suc, ◌+◌, ◌-◌, ◌<◌, ◌≤◌, ◌⊎◌, inl, inr, ⊎_elim, Bool, true, false, List, [], ◌∷◌, Option, Some, None, refl, sym, ap, ◌∙◌, subst, arith, length, get_or, map, set, replicate, slice_get}
-use Rattle.std.specs.Prelude.{MatchBool}
-use Rattle.std.specs.List.{Contains}
-use Rattle.std.proofs.lemmas.Option.{slice_get_within}
+-- False constraints: those that the runs of the tables show, place by place and instance by instance.
+use Rattle.std.proofs.Common.{◌≡◌, ℕ, zero, suc, ◌+◌, ◌-◌, ◌<◌, ◌≤◌, ◌⊎◌, inl, inr, ⊎_elim, Bool, true, false, cond, List, [], ◌∷◌, ◌++◌, Option, Some, None, refl, sym, ap, ◌∙◌, subst, arith, length, get_or, take, map, set, replicate, slice_get}
+use Rattle.std.specs.Prelude.{MatchBool, nat_eq, IfOk, Result, Ok, Err}
+use Rattle.std.specs.List.{Contains, flat_map}
+use Rattle.std.proofs.lemmas.Option.{slice_get_within, get_or_from_slice_get}
 use Rattle.zo_core.specs.Literals.{Literal}
 use Rattle.zo_core.specs.Truth.{clause_true, all_true}
 use Rattle.conflict_proof.specs.declared.names.ConstraintName.{ConstraintName}
@@ -11,14 +11,15 @@ use Rattle.own_cert.specs.declared.certificate.Instance.{Instance}
 use Rattle.own_cert.specs.declared.certificate.Certificate.{Certificate}
 use Rattle.transfer_rules.specs.Names.{NamedClause, named_clause}
 use Rattle.transfer_rules.specs.Table.{no_clause}
-use Rattle.std.proofs.lemmas.List.{get_or_default, get_or-set_other}
-use Rattle.std.proofs.lemmas.Bool.{cases_eq}
+use Rattle.std.proofs.lemmas.List.{get_or_default, get_or-set_other, take_more, take_all}
+use Rattle.std.proofs.lemmas.List.Elements.{Contains-append_left, Contains-append_right, Contains-append_cases}
+use Rattle.std.proofs.lemmas.Bool.{cases_eq, ne_eqb}
 use Rattle.verdict_meaning.specs.Systems.{System, root, names_of}
 use Rattle.verdict_meaning.specs.Solutions.{counts}
-use Rattle.verdict_meaning.specs.Certificates.{assignment_of}
+use Rattle.verdict_meaning.specs.Certificates.{Spot, spots, assignment_of}
 use Rattle.verdict_meaning.specs.CertificateFaults.{HasFault, instance_line, line_of, last_line, unknowns_of, greatest}
 use Rattle.verdict_meaning.specs.CertificateFaults as fault
-use Rattle.cert_checker.specs.Tables.{table_of, row, IsRunEnd, IsRun, HasFalse, run_line, IsFalseRun}
+use Rattle.cert_checker.specs.Tables.{table_of, row, IsRunEnd, IsRun, HasFalse, run_line, IsFalseRun, IsFalseAmong}
 use Rattle.cert_checker.specs.Finding.{IsBelow, IsFirstAt, IsFirstBelow, IsCleanBelow, AreMarksOf, IsBrokenIn, IsLeftOut, IsGroupMissing, earliest}
 use Rattle.cert_checker.proofs.LineLemmas.{lt_or_le, match_false}
 use Rattle.cert_checker.proofs.FirstLemmas.{below_mono, below_first, or_same, or_first}
@@ -48,9 +49,9 @@ module _ (s : System) (c : Certificate) (n g : ℕ) (name : ConstraintName) wher
 
 -- Runs that are false by what is read of an instance, and false constraints of the instance
 
-module _ (s : System) (U : ConstraintName → Bool) (c : Certificate) (n : ℕ) (i : Instance) (b : Option ℕ) (value : ℕ → Bool) (line : ℕ → ℕ) (marks : AreMarksOf s c n i b value line) where
+module _ (s : System) (U : ConstraintName → Bool) (c : Certificate) (n : ℕ) (i : Instance) (b : Option ℕ) (value : ℕ → Bool) (line : ℕ → ℕ) (marks : AreMarksOf s c n i b value line) (ns : List ConstraintName) where
   abbrev rs : List NamedClause
-  rs = table_of s U i.group
+  rs = table_of s U i.group ns
 
   -- the last line of a run is that of its constraint
   run_is_last : (from to : ℕ) (name : ConstraintName) → IsRun rs from to → (row rs from).name ≡ name → run_line line rs from to ≡ last_line s c n i.group name
@@ -60,12 +61,12 @@ module _ (s : System) (U : ConstraintName → Bool) (c : Certificate) (n : ℕ) 
       (λ k ge lt l h.
       let le = run.end.within in
       let m = marks.lines l.var in
-      let y = le_last s c n i.group name (row rs k).lits l (row_of_table s U i.group k (omega (arith, le)) name (run.end.same k ge lt ∙ e)).2 h in
+      let y = le_last s c n i.group name (row rs k).lits l (row_of_table s U i.group ns k (omega (arith, le)) name (run.end.same k ge lt ∙ e)).2 h in
       omega (arith, y, m)) in
       let y : last_line s c n i.group name ≤ run_line line rs from to =
       last_le s c n i.group name (run_line line rs from to)
       (λ ls l among h.
-      let o = in_run s U i.group name from to run e ls among in
+      let o = in_run s U i.group ns name from to run e ls among in
       let z = le_run line rs from to run.end.within o.0 o.1 o.2 l (subst (λ (ms : List Literal). Contains ms l) (sym o.3) h) in
       let m = marks.lines l.var in
       omega (arith, z, m)) in
@@ -75,18 +76,18 @@ module _ (s : System) (U : ConstraintName → Bool) (c : Certificate) (n : ℕ) 
   as_true : (ls : List Literal) (most : ℕ) → IsBelow b most → ((l : Literal) → Contains ls l → line l.var ≤ most) → clause_true value ls ≡ clause_true (assignment_of s c i) ls
   as_true ls most below f = same_truth value (assignment_of s c i) ls (λ l h. marks.values l.var (below_mono b (line l.var) most (f l h) below))
 
-  pub run_to_broken : slice_get c.instances n ≡ Some i → i.group < root s → (at : ℕ) → IsFalseRun rs value line at → IsBelow b at → IsBrokenIn s U c n at
-  run_to_broken here lt at r below =
+  pub run_to_broken : ((m : ConstraintName) → Contains ns m → Contains (names_of s i.group) m) → slice_get c.instances n ≡ Some i → i.group < root s → (at : ℕ) → IsFalseRun rs value line at → IsBelow b at → IsBrokenIn s U c n at
+  run_to_broken inside here lt at r below =
       let run = r.run in
       let off = r.off in
       let e : at ≡ run_line line rs r.from r.to = r.is in
       let name : ConstraintName = (row rs r.from).name in
       let some = run.end.some in
       let le = run.end.within in
-      let first = row_of_table s U i.group r.from (omega (arith, some, le)) name refl in
+      let first = row_of_table s U i.group ns r.from (omega (arith, some, le)) name refl in
       let k : ℕ = off.number in
       let below_k = off.below in
-      let mine = row_of_table s U i.group k (omega (arith, below_k, le)) name (run.end.same k off.from off.below) in
+      let mine = row_of_table s U i.group ns k (omega (arith, below_k, le)) name (run.end.same k off.from off.below) in
       let truth : clause_true value (row rs k).lits ≡ clause_true (assignment_of s c i) (row rs k).lits =
       as_true (row rs k).lits (run_line line rs r.from r.to) (subst (IsBelow b) e below) (λ l h. le_run line rs r.from r.to run.end.within k off.from off.below l h) in
       record {
@@ -94,22 +95,21 @@ module _ (s : System) (U : ConstraintName → Bool) (c : Certificate) (n : ℕ) 
         there = here;
         group = lt;
         name = name;
-        among = first.0;
+        among = inside name first.0;
         counting = first.1;
         off = some_false (assignment_of s c i) (s.clauses i.group name) (row rs k).lits mine.2 (sym truth ∙ off.off);
         is = e ∙ run_is_last r.from r.to name run refl;
       }
 
-  pub broken_to_run : slice_get c.instances n ≡ Some i → (at : ℕ) → IsBrokenIn s U c n at → IsBelow b at → IsFalseRun rs value line at
-  broken_to_run here at broken below =
+  pub broken_to_run : slice_get c.instances n ≡ Some i → (at : ℕ) (broken : IsBrokenIn s U c n at) → Contains ns broken.name → IsBelow b at → IsFalseRun rs value line at
+  broken_to_run here at broken among below =
       let there' = broken.there in
       let same : i ≡ broken.instance = cc in
       let name : ConstraintName = broken.name in
-      let among : Contains (names_of s i.group) name = subst (λ (x : Instance). Contains (names_of s x.group) name) (sym same) broken.among in
       let off : all_true (assignment_of s c i) (s.clauses i.group name) ≡ false = subst (λ (x : Instance). all_true (assignment_of s c x) (s.clauses x.group name) ≡ false) (sym same) broken.off in
       let e : at ≡ last_line s c n i.group name = subst (λ (x : Instance). at ≡ last_line s c n x.group name) (sym same) broken.is in
       let one = false_one (assignment_of s c i) (s.clauses i.group name) off in
-      let place = in_table s U i.group name one.0 among broken.counting one.1 in
+      let place = in_table s U i.group ns name one.0 among broken.counting one.1 in
       let k : ℕ = place.0 in
       let is : row rs k ≡ named_clause name one.0 = get_or_default rs k no_clause (named_clause name one.0) place.1 ∙ place.2 in
       let around = run_around rs k place.1 in
@@ -132,19 +132,90 @@ module _ (s : System) (U : ConstraintName → Bool) (c : Certificate) (n : ℕ) 
         is = at_is;
       }
 
-  -- the first run that is false is the first false constraint
-  pub broken_first : slice_get c.instances n ≡ Some i → i.group < root s → (found : Option ℕ) → IsFirstBelow b (IsFalseRun rs value line) found → IsFirstBelow b (IsBrokenIn s U c n) found
-  broken_first here lt None f = λ at broken below. f at (broken_to_run here at broken below) below
+-- The constraints of a group are those of its places
+
+-- a group is not the root
+pub own_names : (s : System) (g : ℕ) → g < root s → names_of s g ≡ s.names g
+own_names s g lt = pick (nat_eq g (root s)) (ne_eqb g (root s) (λ h. omega (arith, h)))
+  where
+    pick : (b : Bool) → b ≡ false → cond b [] (s.names g) ≡ s.names g
+    pick true x = cc
+    pick false x = refl
+
+pub found_then : {E : Type 0} (r : Result (Option ℕ) E) (P Q : ℕ → Type 0) (b : Option ℕ) → IfOk r (IsFirstBelow b P) → ((found : Option ℕ) → IsFirstBelow b P found → IsFirstBelow b Q found) → IfOk r (IsFirstBelow b Q)
+found_then (Ok found) P Q b h f = f found h
+found_then (Err e) P Q b h f = h
+
+module _ (s : System) (U : ConstraintName → Bool) (c : Certificate) (n : ℕ) (i : Instance) (b : Option ℕ) (value : ℕ → Bool) (line : ℕ → ℕ) (marks : AreMarksOf s c n i b value line) (names : Spot → List ConstraintName)
+    (placed : names_of s i.group ≡ flat_map names (spots s i.group)) where
+  of_place : slice_get c.instances n ≡ Some i → i.group < root s → (at : ℕ) → IsFalseAmong s U i.group names (spots s i.group) value line at → IsBelow b at → IsBrokenIn s U c n at
+  of_place here lt at f below =
+      run_to_broken s U c n i b value line marks (names f.spot)
+      (λ m h. subst (λ (ns : List ConstraintName). Contains ns m) (sym placed) (in_all names (spots s i.group) f.spot m f.among h)) here lt at f.run below
+
+  at_place : slice_get c.instances n ≡ Some i → (at : ℕ) → IsBrokenIn s U c n at → IsBelow b at → IsFalseAmong s U i.group names (spots s i.group) value line at
+  at_place here at broken below =
+      let there' = broken.there in
+      let same : i ≡ broken.instance = cc in
+      let among : Contains (names_of s i.group) broken.name = subst (λ (x : Instance). Contains (names_of s x.group) broken.name) (sym same) broken.among in
+      let o = of_all names (spots s i.group) broken.name (subst (λ (ns : List ConstraintName). Contains ns broken.name) placed among) in
+      record { spot = o.0; among = o.1; run = broken_to_run s U c n i b value line marks (names o.0) here at broken o.2 below }
+
+  -- the first run of a place that is false is the first false constraint
+  pub broken_first : slice_get c.instances n ≡ Some i → i.group < root s → (found : Option ℕ) → IsFirstBelow b (IsFalseAmong s U i.group names (spots s i.group) value line) found
+      → IsFirstBelow b (IsBrokenIn s U c n) found
+  broken_first here lt None f = λ at broken below. f at (at_place here at broken below) below
   broken_first here lt (Some l) f = record {
-    is = run_to_broken here lt l f.is f.below;
+    is = of_place here lt l f.is f.below;
     below = f.below;
     first = λ other broken. earliest other broken;
   }
     where
       earliest : (other : ℕ) → IsBrokenIn s U c n other → l ≤ other
       earliest other broken = ⊎_elim
-          (λ (small : other < l). f.first other (broken_to_run here other broken (below_mono b other l (omega arith) f.below)))
+          (λ (small : other < l). f.first other (at_place here other broken (below_mono b other l (omega arith) f.below)))
           (λ (le : l ≤ other). le) (lt_or_le other l)
+
+-- Places one after another
+
+module _ (s : System) (U : ConstraintName → Bool) (g : ℕ) (names : Spot → List ConstraintName) (value : ℕ → Bool) (line : ℕ → ℕ) (b : Option ℕ) where
+  pub no_places : IsFirstBelow b (IsFalseAmong s U g names [] value line) None
+  no_places at f below = none_there f.spot f.among
+
+  pub one_more_place : (ps : List Spot) (k : ℕ) (p : Spot) → slice_get ps k ≡ Some p → (one other : Option ℕ) → IsFirstBelow b (IsFalseAmong s U g names (take k ps) value line) one
+      → IsFirstBelow b (IsFalseRun (table_of s U g (names p)) value line) other → IsFirstBelow b (IsFalseAmong s U g names (take (k + 1) ps) value line) (earliest one other)
+  one_more_place ps k p at one other x y =
+      or_first b (IsFalseAmong s U g names (take k ps) value line) (IsFalseRun (table_of s U g (names p)) value line) (IsFalseAmong s U g names (take (k + 1) ps) value line) split left right one other x y
+    where
+      next : take (k + 1) ps ≡ take k ps ++ p ∷ []
+      next = take_more ps k p (slice_get_within ps k p at) ∙ ap (λ (q : Spot). take k ps ++ q ∷ []) (get_or_from_slice_get ps k p p at)
+
+      last : (q : Spot) → Contains (p ∷ []) q → p ≡ q
+      last q h = ⊎_elim (λ (e : p ≡ q). e) (λ (r : Contains [] q). absurd (none_there q r)) (first_or_rest p [] q h)
+
+      split : (l : ℕ) → IsFalseAmong s U g names (take (k + 1) ps) value line l → IsFalseAmong s U g names (take k ps) value line l ⊎ IsFalseRun (table_of s U g (names p)) value line l
+      split l f =
+          ⊎_elim (λ (h : Contains (take k ps) f.spot). inl (record { spot = f.spot; among = h; run = f.run }))
+          (λ (h : Contains (p ∷ []) f.spot). inr (subst (λ (q : Spot). IsFalseRun (table_of s U g (names q)) value line l) (sym (last f.spot h)) f.run))
+          (Contains-append_cases (take k ps) (p ∷ []) f.spot (subst (λ (qs : List Spot). Contains qs f.spot) next f.among))
+
+      left : (l : ℕ) → IsFalseAmong s U g names (take k ps) value line l → IsFalseAmong s U g names (take (k + 1) ps) value line l
+      left l f = record {
+        spot = f.spot;
+        among = subst (λ (qs : List Spot). Contains qs f.spot) (sym next) (Contains-append_left (take k ps) (p ∷ []) f.spot f.among);
+        run = f.run;
+      }
+
+      right : (l : ℕ) → IsFalseRun (table_of s U g (names p)) value line l → IsFalseAmong s U g names (take (k + 1) ps) value line l
+      right l f = record {
+        spot = p;
+        among = subst (λ (qs : List Spot). Contains qs p) (sym next) (Contains-append_right (take k ps) (p ∷ []) p (here p [] p refl));
+        run = f;
+      }
+
+  pub all_places : (ps : List Spot) (k : ℕ) (found : Option ℕ) → length ps ≤ k → IsFirstBelow b (IsFalseAmong s U g names (take k ps) value line) found
+      → IsFirstBelow b (IsFalseAmong s U g names ps value line) found
+  all_places ps k found le h = subst (λ (qs : List Spot). IsFirstBelow b (IsFalseAmong s U g names qs value line) found) (take_all k ps le) h
 
 -- Instances one after another
 

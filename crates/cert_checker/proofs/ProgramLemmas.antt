@@ -3,10 +3,10 @@ use Rattle.std.proofs.Common.{◌≡◌, ℕ, zero, suc, ◌+◌, ◌-◌, ◌<�
 use Rattle.std.specs.Prelude.{nat_eq, slice_index, slice_index_or}
 use Rattle.std.specs.List.{Contains, All, filter, flat_map, range_with_len, position_or_len, count_by}
 use Rattle.std.specs.Option.{option_map}
-use Rattle.std.proofs.lemmas.Bool.{cases_eq, eqb-true, ne_eqb}
+use Rattle.std.proofs.lemmas.Bool.{cases_eq, eqb-true}
 use Rattle.std.proofs.lemmas.List.{length-map, get_or-map}
 use Rattle.std.proofs.lemmas.List.Sums.{length-filter}
-use Rattle.std.proofs.lemmas.List.Elements.{filter_passes, All-contains}
+use Rattle.std.proofs.lemmas.List.Elements.{filter_passes, All-contains, Contains-append_left, Contains-append_right}
 use Rattle.std.specs.List.Sorted.{IsStrictlyIncreasing}
 use Rattle.std.proofs.lemmas.List.Folds.{flat_map-map}
 use Rattle.std.proofs.lemmas.Option.{slice_get_within}
@@ -16,6 +16,7 @@ use Rattle.conflict_proof.specs.declared.names.ConstraintName.{ConstraintName}
 use Rattle.flow_graph.specs.FlowGraph.{FlowGraph, flow_of}
 use Rattle.flow_graph.specs.Fits.{IsFlowGraph}
 use Rattle.path_facts.specs.Tables.{FactTables}
+use Rattle.field_rules.specs.Lists.{gather}
 use Rattle.recursion_groups.specs.Grouping.{IsGroup, IsOrdered, IsGrouping}
 use Rattle.owner_vars.specs.Unknowns.{Unknown, Pi, Sigma, unknowns, interface, parts_of, site_callees, place_unknowns, number_of, is_same}
 use Rattle.owner_vars.specs.Rows.{is_pi_of, is_sigma_of, is_at, range_where}
@@ -24,17 +25,20 @@ use Rattle.owner_vars.proofs.Numbers.{is_same_true, same_itself}
 use Rattle.transfer_rules.specs.declared.constraint.Constraint.{Constraint}
 use Rattle.transfer_rules.specs.declared.constraint.Condition.{Condition}
 use Rattle.transfer_rules.specs.declared.scope.Scope.{Scope}
-use Rattle.transfer_rules.specs.Names.{NamedClause, name_of, named_clause, named_clauses, condition_clauses, condition_in, is_in_force, in_scope, group_clauses}
+use Rattle.transfer_rules.specs.Names.{NamedClause, name_of, named_clause, named_clauses, condition_clauses, condition_in, is_in_force, in_scope, clauses_in}
 use Rattle.transfer_rules.specs.Names as rules
 use Rattle.transfer_rules.specs.Programs.{group_at}
-use Rattle.transfer_rules.specs.Rules.{constraints}
+use Rattle.transfer_rules.specs.Rules.{body_constraints, place_constraints, constraints}
 use Rattle.verdict_meaning.specs.declared.callee.Callee.{Callee}
-use Rattle.verdict_meaning.specs.Systems.{System, root, members, callees, nobody, names_of, parts_before, pi_numbers}
+use Rattle.verdict_meaning.specs.Systems.{System, root, members, callees, nobody, parts_before, pi_numbers}
+use Rattle.verdict_meaning.specs.Certificates.{Spot}
 use Rattle.verdict_meaning.specs.Solutions.{counts}
 use Rattle.verdict_meaning.specs.Programs.{system_of, callee_in, clauses_found, NumbersAgree, NamesAreApart, SystemIsOfGraph}
 use Rattle.cert_checker.specs.Tables.{clauses_if, table_of}
 use Rattle.cert_checker.specs.Grouped.{called}
-use Rattle.cert_checker.proofs.Among.{here, there, first_or_rest, none_there, at_place}
+use Rattle.cert_checker.specs.Placed.{names_at}
+use Rattle.cert_checker.proofs.LineLemmas.{lt_or_le}
+use Rattle.cert_checker.proofs.Among.{here, there, first_or_rest, none_there, at_place, in_all}
 
 -- Unknowns that stand together
 
@@ -74,16 +78,20 @@ first_number f (x ∷ xs) n (suc len) e l pos = (x, xs, refl, cc)
 count_is : (p : Unknown → Bool) (us xs : List Unknown) → filter p us ≡ xs → count_by p us ≡ length xs
 count_is p us xs e = sym (length-filter p us) ∙ ap length e
 
+-- a place of a procedure
+abbrev pub spot : ℕ → ℕ → Spot
+spot k p = record { proc = k; place = p }
+
+-- what is gathered below n
+in_gather : {X : Type 0} (f : ℕ → List X) (n p : ℕ) (x : X) → p < n → Contains (f p) x → Contains (gather n f) x
+in_gather f zero p x lt h = absurd (omega arith)
+in_gather f (suc n) p x lt h =
+    ⊎_elim (λ (less : p < n). Contains-append_left (gather n f) (f n) x (in_gather f n p x less h))
+    (λ (ge : n ≤ p). let e : p ≡ n = omega arith in Contains-append_right (gather n f) (f n) x (subst (λ (q : ℕ). Contains (f q) x) e h)) (lt_or_le p n)
+
 module _ (g : FlowGraph) (facts : FactTables) (groups : List (List ℕ)) where
   abbrev s : System
   s = system_of g facts groups
-
-  own_names : (e : ℕ) → e < length groups → names_of s e ≡ s.names e
-  own_names e lt = pick (nat_eq e (root s)) (ne_eqb e (root s) (λ h. omega (arith, h)))
-    where
-      pick : (b : Bool) → b ≡ false → cond b [] (s.names e) ≡ s.names e
-      pick true x = cc
-      pick false x = refl
 
   module _ (e : ℕ) (us : List Unknown) (is : us ≡ unknowns g (group_at groups e)) (together : RowsAreTogether g (group_at groups e)) where
     pub face_count : (k : ℕ) (range : NumberRange) → Contains (group_at groups e) k → range ≡ range_where (is_pi_of k) us → range.count ≡ part_count g k
@@ -120,12 +128,12 @@ module _ (g : FlowGraph) (facts : FactTables) (groups : List (List ℕ)) where
 
   -- Clauses
 
-  pub table_is : ((members : List ℕ) → NamesAreApart g facts members) → (scope : Scope) (e : ℕ) → e < length groups
-      → group_clauses g facts (group_at groups e) scope ≡ table_of s (in_scope scope) e
-  table_is apart scope e lt =
-      same_clauses (constraints g facts (group_at groups e)) (λ c h. h)
-      ∙ sym (flat_map-map (clauses_if s (in_scope scope) e) name_of (constraints g facts (group_at groups e)))
-      ∙ ap (flat_map (clauses_if s (in_scope scope) e)) (sym (own_names e lt))
+  pub table_is : ((members : List ℕ) → NamesAreApart g facts members) → (scope : Scope) (e k p : ℕ) → Contains (group_at groups e) k → p < length (flow_of g k).places
+      → clauses_in scope (place_constraints g facts (group_at groups e) k p) ≡ table_of s (in_scope scope) e (names_at g facts (group_at groups e) (spot k p))
+  table_is apart scope e k p member lt =
+      same_clauses (place_constraints g facts (group_at groups e) k p)
+      (λ c h. in_all (body_constraints g facts (group_at groups e)) (group_at groups e) k c member (in_gather (place_constraints g facts (group_at groups e) k) (length (flow_of g k).places) p c lt h))
+      ∙ sym (flat_map-map (clauses_if s (in_scope scope) e) name_of (place_constraints g facts (group_at groups e) k p))
     where
       one : (c : Constraint) → Contains (constraints g facts (group_at groups e)) c → rules.clauses_if scope c ≡ clauses_if s (in_scope scope) e c.name
       one c h =

@@ -10,7 +10,7 @@ use Rattle.zo_core.specs.Truth.{holds, clause_true, all_true}
 use Rattle.conflict_proof.specs.declared.names.ConstraintName.{ConstraintName}
 use Rattle.transfer_rules.specs.Names.{NamedClause, named_clause, name_key}
 use Rattle.transfer_rules.specs.Table.{no_clause}
-use Rattle.verdict_meaning.specs.Systems.{System, names_of}
+use Rattle.verdict_meaning.specs.Systems.{System}
 use Rattle.verdict_meaning.specs.Solutions.{counts}
 use Rattle.verdict_meaning.specs.CertificateFaults.{greatest, unknowns_of}
 use Rattle.cert_checker.specs.Tables.{clauses_if, table_of, row, IsRunEnd, IsRun, HasFalse, clause_line, run_line, IsFalseRun}
@@ -88,11 +88,11 @@ module _ (B : ConstraintName → List NamedClause) (named : (n : ConstraintName)
           let ej : a + j ≡ length (B m) + (a - length (B m) + j) = omega arith in
           (omega (arith, lt', past), ap (row (all_rows (m ∷ ms))) ej ∙ right_row m ms (a - length (B m) + j) ∙ r.1)
 
--- The table of a group
+-- The table of some names
 
-module _ (s : System) (U : ConstraintName → Bool) (g : ℕ) where
+module _ (s : System) (U : ConstraintName → Bool) (g : ℕ) (ns : List ConstraintName) where
   abbrev rows : List NamedClause
-  rows = table_of s U g
+  rows = table_of s U g ns
 
   off_if : (n : ConstraintName) → counts U n ≡ false → clauses_if s U g n ≡ []
   off_if n e = ap (λ (b : Bool). cond b (map (named_clause n) (s.clauses g n)) []) e
@@ -115,17 +115,17 @@ module _ (s : System) (U : ConstraintName → Bool) (g : ℕ) where
 
   -- a row of the table
   pub row_of_table : (k : ℕ) → k < length rows → (n : ConstraintName) → (row rows k).name ≡ n
-      → Contains (names_of s g) n × (counts U n ≡ true) × Contains (s.clauses g n) (row rows k).lits
+      → Contains ns n × (counts U n ≡ true) × Contains (s.clauses g n) (row rows k).lits
   row_of_table k lt n e =
-      let o = of_all (clauses_if s U g) (names_of s g) (row rows k) (Contains-get_or rows k no_clause lt) in
+      let o = of_all (clauses_if s U g) ns (row rows k) (Contains-get_or rows k no_clause lt) in
       let p = of_if o.0 (row rows k) o.2 in
       let same : o.0 ≡ n = sym p.1 ∙ e in
-      (subst (Contains (names_of s g)) same o.1, subst (λ (m : ConstraintName). counts U m ≡ true) same p.0, subst (λ (m : ConstraintName). Contains (s.clauses g m) (row rows k).lits) same p.2)
+      (subst (Contains ns) same o.1, subst (λ (m : ConstraintName). counts U m ≡ true) same p.0, subst (λ (m : ConstraintName). Contains (s.clauses g m) (row rows k).lits) same p.2)
 
   -- a clause of a constraint that counts is in the table
-  pub in_table : (n : ConstraintName) (ls : List Literal) → Contains (names_of s g) n → counts U n ≡ true → Contains (s.clauses g n) ls → Contains rows (named_clause n ls)
+  pub in_table : (n : ConstraintName) (ls : List Literal) → Contains ns n → counts U n ≡ true → Contains (s.clauses g n) ls → Contains rows (named_clause n ls)
   in_table n ls among on there =
-      in_all (clauses_if s U g) (names_of s g) n (named_clause n ls) among (subst (λ (xs : List NamedClause). Contains xs (named_clause n ls)) (sym (on_if n on)) (in_map (named_clause n) (s.clauses g n) ls there))
+      in_all (clauses_if s U g) ns n (named_clause n ls) among (subst (λ (xs : List NamedClause). Contains xs (named_clause n ls)) (sym (on_if n on)) (in_map (named_clause n) (s.clauses g n) ls there))
 
   -- a run has all clauses of its constraint
   pub in_run : (n : ConstraintName) (a b : ℕ) → IsRun rows a b → (row rows a).name ≡ n → (ls : List Literal) → Contains (s.clauses g n) ls
@@ -135,7 +135,7 @@ module _ (s : System) (U : ConstraintName → Bool) (g : ℕ) where
       let h = in_map (named_clause n) (s.clauses g n) ls there in
       let j : ℕ = h.0 in
       let small : j < length (clauses_if s U g n) = (let e' = ap length (on_if n on) in let lt = h.1 in omega (arith, e', lt)) in
-      let w = whole_run (clauses_if s U g) named_if (names_of s g) n a b run.end.some run.end.within
+      let w = whole_run (clauses_if s U g) named_if ns n a b run.end.some run.end.within
       (λ k ge lt. run.end.same k ge lt ∙ e) (λ k next name. run.before k next (name ∙ sym e)) (λ lt name. run.end.after lt (name ∙ sym e)) j small in
       let is : row (clauses_if s U g n) j ≡ named_clause n ls =
       ap (λ (xs : List NamedClause). row xs j) (on_if n on) ∙ get_or_default (map (named_clause n) (s.clauses g n)) j no_clause (named_clause n ls) h.1 ∙ h.2 in

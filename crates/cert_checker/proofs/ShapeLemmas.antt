@@ -4,6 +4,7 @@ use Rattle.std.specs.Prelude.{sum_by, nat_eq, MatchBool}
 use Rattle.std.specs.List.{Contains, range_with_len}
 use Rattle.std.proofs.lemmas.Bool.{cases_eq, eqb-true, eq-eqb}
 use Rattle.std.proofs.lemmas.List.{length-map, map-append, append_assoc}
+use Rattle.std.proofs.lemmas.List.FromFn.{length-range_with_len, get_or-range_with_len}
 use Rattle.std.proofs.lemmas.Option.{slice_get_within, slice_get_read, slice_get-map, slice_get_past, slice_get-get_or}
 use Rattle.conflict_proof.specs.declared.names.ConstraintName.{ConstraintName}
 use Rattle.conflict_proof.specs.declared.faults.Reason.TheVariants.{Range}
@@ -141,6 +142,22 @@ due_member s g due are k p at =
     let o = of_all (spots_of s) (members s g) (spot_at p) (subst (λ (ps : List Spot). Contains ps (spot_at p)) are h) in
     let q = of_map (λ (n : ℕ). let x : Spot = record { proc = o.0; place = n } in x) (range_with_len 0 (s.places o.0)) (spot_at p) o.2 in
     subst (Contains (members s g)) (ap (λ (x : Spot). x.proc) q.2) o.1
+
+-- and there is such a place
+pub due_place : (s : System) (g : ℕ) (due : List Place) → map spot_at due ≡ spots s g → (k : ℕ) (p : Place) → slice_get due k ≡ Some p → p.place < s.places p.proc
+due_place s g due are k p at =
+    let h : Contains (map spot_at due) (spot_at p) = in_map spot_at due p (at_place due k p at) in
+    let o = of_all (spots_of s) (members s g) (spot_at p) (subst (λ (ps : List Spot). Contains ps (spot_at p)) are h) in
+    let q = of_map (λ (n : ℕ). let x : Spot = record { proc = o.0; place = n } in x) (range_with_len 0 (s.places o.0)) (spot_at p) o.2 in
+    let proc : s.places o.0 ≡ s.places p.proc = ap (λ (x : Spot). s.places x.proc) q.2 in
+    let place : q.0 ≡ p.place = ap (λ (x : Spot). x.place) q.2 in
+    let i : ℕ = q.1.0 in
+    let lt = q.1.1 in
+    let long = length-range_with_len 0 (s.places o.0) in
+    let small : i < s.places o.0 = omega (arith, lt, long) in
+    let is : get_or (range_with_len 0 (s.places o.0)) i q.0 ≡ q.0 = q.1.2 in
+    let value = get_or-range_with_len 0 (s.places o.0) i q.0 small in
+    omega (arith, is, value, small, proc, place)
 
 -- One instance
 

@@ -10,7 +10,7 @@ use Rattle.own_cert.specs.declared.certificate.Certificate.{Certificate}
 use Rattle.transfer_rules.specs.Names.{NamedClause, named_clause}
 use Rattle.transfer_rules.specs.Table.{no_clause}
 use Rattle.verdict_meaning.specs.declared.callee.Callee.{Callee}
-use Rattle.verdict_meaning.specs.Systems.{System, members, callees, callee, callee_parts, names_of}
+use Rattle.verdict_meaning.specs.Systems.{System, members, callees, callee, callee_parts}
 use Rattle.verdict_meaning.specs.Solutions.{counts}
 use Rattle.verdict_meaning.specs.Certificates.{Spot, face_of, site_bits, bits_at_places}
 use Rattle.verdict_meaning.specs.CertificateFaults.{phi_line, instance_line, greatest}
@@ -21,9 +21,9 @@ use Rattle.verdict_meaning.specs.CertificateFaults.{phi_line, instance_line, gre
 abbrev pub clauses_if : System → (ConstraintName → Bool) → ℕ → ConstraintName → List NamedClause
 clauses_if s U g name = cond (counts U name) (map (named_clause name) (s.clauses g name)) []
 
--- those of all constraints that count, in the order of names, each with its name
-abbrev pub table_of : System → (ConstraintName → Bool) → ℕ → List NamedClause
-table_of s U g = flat_map (clauses_if s U g) (names_of s g)
+-- those of all these constraints that count, in their order, each with its name
+abbrev pub table_of : System → (ConstraintName → Bool) → ℕ → List ConstraintName → List NamedClause
+table_of s U g names = flat_map (clauses_if s U g) names
 
 -- the clause of this number, from 0
 abbrev pub row : List NamedClause → ℕ → NamedClause
@@ -63,6 +63,14 @@ pub record IsFalseRun (rows : List NamedClause) (value : ℕ → Bool) (line : �
   pub run : IsRun rows from to
   pub off : HasFalse rows value from to
   pub is : at ≡ run_line line rows from to
+
+-- The constraints of a group, place by place
+
+-- one of these places has a constraint with a false clause, whose last unknown stands on this line
+pub record IsFalseAmong (s : System) (U : ConstraintName → Bool) (g : ℕ) (names : Spot → List ConstraintName) (places : List Spot) (value : ℕ → Bool) (line : ℕ → ℕ) (at : ℕ) : Type 0 where
+  pub spot : Spot
+  pub among : Contains places spot
+  pub run : IsFalseRun (table_of s U g (names spot)) value line at
 
 -- Lines
 

@@ -1,13 +1,16 @@
-ghost use Rattle.std.specs.Prelude.{◌≡◌, ◌<◌, slice_get, Some, IfOk, MatchBool};
+ghost use Rattle.std.specs.Prelude.{◌≡◌, ◌<◌, ◌++◌, map, slice_get, Some, IfOk, MatchBool};
 ghost use Rattle.conflict_proof.specs.declared.faults.Reason.TheVariants.{Range, Site, Broken};
 ghost use Rattle.verdict_meaning.specs.Systems.{root};
+ghost use Rattle.verdict_meaning.specs.Certificates.{bit_at, spots};
 ghost use Rattle.verdict_meaning.specs.CertificateFaults.{HasFault, instance_line};
-ghost use Rattle.cert_checker.specs.Tables.{AreStarts};
+ghost use Rattle.cert_checker.specs.Places.{spot_at};
+ghost use Rattle.cert_checker.specs.Tables.{AreStarts, IsFalseAmong, line_in};
 ghost use Rattle.cert_checker.specs.Finding.{IsFirstBelow, IsCleanBelow, IsBrokenIn, IsLeftOut, IsTaken, earliest};
 
 use crate::groups::Groups;
 use crate::lines::is_below;
-use crate::marks::marks_of;
+use crate::marks::{Marks, marks_of};
+use crate::places::{Place, places_of};
 use crate::runs::first_false;
 use c_tree::Memory;
 use own_cert::{Certificate, Instance};
@@ -71,7 +74,7 @@ fn is_left_out(seen: &[bool], group: usize, below: bool) -> bool
     seen[group]
 }
 
-/// The same in one instance.
+/// The same in one instance, place by place.
 fn broken_in<G: Groups>(
     alloc: Global,
     groups: &G,
@@ -88,7 +91,34 @@ fn broken_in<G: Groups>(
     requires sites { IsCleanBelow bound (HasFault (G.system groups.now) (G.scope groups.now) certificate.now Site) }
     ensures { IfOk result (IsFirstBelow bound (IsBrokenIn (G.system groups.now) (G.scope groups.now) certificate.now n)) }
 {
-    let table = groups.clauses(alloc, instance.group)?;
+    let places = places_of(alloc, groups, instance.group)?;
     let marks = marks_of(alloc, groups, certificate, n, instance, first, bound)?;
-    Ok(first_false(&table, &certificate.phi.items, &marks, bound))
+    let phi = certificate.phi.items.as_slice();
+    false_in(alloc, groups, instance.group, &places, phi, &marks, bound)
+}
+
+/// Of the constraints of these places with a false clause the first line before the bound up to which all unknowns of one
+/// stand. The clauses of one place are in memory at a time.
+fn false_in<G: Groups>(
+    alloc: Global,
+    groups: &G,
+    group: u32,
+    places: &[Place],
+    phi: &[bool],
+    marks: &Marks,
+    bound: Option<u64>,
+) -> Result<Option<u64>, Memory>
+    requires group { group < root (G.system groups.now) }
+    requires places { map spot_at places.now ≡ spots (G.system groups.now) group }
+    ensures { IfOk result (IsFirstBelow bound (IsFalseAmong (G.system groups.now) (G.scope groups.now) group (G.names groups.now group) (spots (G.system groups.now) group)
+        (bit_at (phi.now ++ marks.now.bits.items)) (line_in marks.now.fields marks.now.lines.items marks.now.after))) }
+{
+    let mut found = None;
+    for k in 0..places.len() {
+        let place = places[k];
+        let table = groups.clauses_at(alloc, group, place.proc, place.place)?;
+        let line = first_false(&table, phi, marks, bound);
+        found = earliest(found, line);
+    }
+    Ok(found)
 }

@@ -9,6 +9,7 @@ ghost use Rattle.verdict_meaning.specs.Systems.{nobody, parts_before};
 ghost use Rattle.cert_checker.specs.Tables.{table_of};
 ghost use Rattle.transfer_rules.specs.Programs.{group_at};
 ghost use Rattle.cert_checker.specs.Grouped.{AreGroupNumbers, MarksGroup, called};
+ghost use Rattle.cert_checker.specs.Placed.{names_at};
 
 use crate::groups::Face;
 use c_tree::Memory;
@@ -16,7 +17,7 @@ use flow_graph::Numbers;
 use owner_vars::{Numbering, site_laws, sites, unknown_laws};
 use std::alloc::Global;
 use std::marker::Model;
-use transfer_rules::{ClauseTable, Program, Scope, group_clauses};
+use transfer_rules::{ClauseTable, Program, Scope, place_clauses};
 use verdict_meaning::{Callee, names_are_apart, system_is_of_graph};
 
 /// Whom the sites of a group call. Contracts see the list.
@@ -101,18 +102,23 @@ pub(crate) fn site_parts_of(program: &Program, group: u32, site: u32) -> u32
     numbering_of(program, group).site_face(site).count
 }
 
-/// The clauses of a group's constraints in a scope.
-pub(crate) fn table_of(
+/// The clauses of the constraints of a place of a member that are in a scope.
+pub(crate) fn clauses_at(
     alloc: Global,
     program: &Program,
     group: u32,
+    proc: u32,
+    place: u32,
     scope: &Scope,
 ) -> Result<ClauseTable, Memory>
-    requires { group < length program.now.groups }
-    ensures { IfOk result (λ t. t ≡ table_of (system_of program.now.graph program.now.facts program.now.groups) (in_scope scope.now) group) }
+    requires group { group < length program.now.groups }
+    requires member { Contains (group_at program.now.groups group) proc }
+    requires place { place < length (flow_of program.now.graph proc).places }
+    ensures { IfOk result (λ t. t ≡ table_of (system_of program.now.graph program.now.facts program.now.groups) (in_scope scope.now) group
+        (names_at program.now.graph program.now.facts (group_at program.now.groups group) (record { proc = proc; place = place }))) }
 {
     names_are_apart();
-    group_clauses(alloc, program, group, scope)
+    place_clauses(alloc, program, group, proc, place, scope)
 }
 
 /// For each procedure with a body the number of its group.

@@ -1,7 +1,8 @@
-ghost use Rattle.std.specs.Prelude.{◌≡◌, ◌<◌, ◌+◌, ℕ, Bool, length, slice_index_or, IfOk};
-ghost use Rattle.std.specs.List.{Contains};
+ghost use Rattle.std.specs.Prelude.{◌≡◌, ◌<◌, ◌+◌, ℕ, Bool, List, length, slice_index_or, IfOk};
+ghost use Rattle.std.specs.List.{Contains, flat_map};
 ghost use Rattle.conflict_proof.specs.declared.names.ConstraintName.{ConstraintName};
 ghost use Rattle.verdict_meaning.specs.Systems.{System, root, members, callees, callee_parts, parts_before, nobody};
+ghost use Rattle.verdict_meaning.specs.Certificates.{Spot, spots};
 ghost use Rattle.cert_checker.specs.Tables.{table_of};
 
 use c_tree::Memory;
@@ -21,12 +22,15 @@ pub struct Face {
 
 /// The call groups of a program, numbered from 0, with the constraints that count.
 ///
-/// No call but `clauses` takes memory, and each but `clauses` takes constant time.
+/// No call but `clauses_at` takes memory, and each but `clauses_at` takes constant time.
 pub trait Groups {
     ghost system: { Self → System };
 
     // The names that count, besides those of the rule that is always in force.
     ghost scope: { Self → ConstraintName → Bool };
+
+    // The names of the constraints of a place of a group.
+    ghost names: { Self → ℕ → Spot → List ConstraintName };
 
     /// How many groups there are.
     fn count(&self) -> u32
@@ -71,8 +75,19 @@ pub trait Groups {
         requires site { site < length (callees (system self.now) group) }
         ensures { result ≡ callee_parts (system self.now) (slice_index_or (callees (system self.now) group) site nobody) };
 
-    /// The clauses of a group's constraints that count, in the order of their names.
-    fn clauses(&self, alloc: Global, group: u32) -> Result<ClauseTable, Memory>
-        requires { group < root (system self.now) }
-        ensures { IfOk result (λ t. t ≡ table_of (system self.now) (scope self.now) group) };
+    /// The clauses of the constraints of one place of a member that count, in the order of their names.
+    fn clauses_at(
+        &self,
+        alloc: Global,
+        group: u32,
+        proc: u32,
+        place: u32,
+    ) -> Result<ClauseTable, Memory>
+        requires group { group < root (system self.now) }
+        requires member { Contains (members (system self.now) group) proc }
+        requires place { place < (system self.now).places proc }
+        ensures { IfOk result (λ t. t ≡ table_of (system self.now) (scope self.now) group (names self.now group (record { proc = proc; place = place }))) };
+
+    // The names of a group's constraints are those of its places, in order.
+    ghost placed: { (x : Self) (g : ℕ) → (system x).names g ≡ flat_map (names x g) (spots (system x) g) };
 }

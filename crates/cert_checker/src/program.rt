@@ -8,7 +8,7 @@ ghost use Rattle.cert_checker.specs.Owned.{RunsHaveOwners};
 
 use crate::faults::check;
 use crate::grouped::{
-    Callees, callees_of, face_of, group_numbers, members_of, places_of, site_parts_of, table_of,
+    Callees, callees_of, clauses_at, face_of, group_numbers, members_of, places_of, site_parts_of,
     width_of,
 };
 use crate::groups::{Face, Groups};
@@ -72,11 +72,17 @@ fn scoped<'a>(alloc: Global, program: &'a Program, scope: &'a Scope) -> Result<I
 
 impl<'a> Groups for InScope<'a> {
     ghost use Rattle.transfer_rules.specs.Names.{in_scope};
+    ghost use Rattle.transfer_rules.specs.Programs.{group_at};
+    ghost use Rattle.cert_checker.specs.Placed.{names_at, names_placed};
     ghost use Rattle.verdict_meaning.specs.Programs.{system_of};
 
     ghost system = { λ v. system_of v.program.graph v.program.facts v.program.groups };
 
     ghost scope = { λ v. in_scope v.scope };
+
+    ghost names = { λ v e. names_at v.program.graph v.program.facts (group_at v.program.groups e) };
+
+    ghost placed = { λ v e. names_placed v.program.graph v.program.facts v.program.groups e };
 
     fn count(&self) -> u32 {
         self.count
@@ -110,8 +116,14 @@ impl<'a> Groups for InScope<'a> {
         site_parts_of(self.program, group, site as u32)
     }
 
-    fn clauses(&self, alloc: Global, group: u32) -> Result<ClauseTable, Memory> {
-        table_of(alloc, self.program, group, self.scope)
+    fn clauses_at(
+        &self,
+        alloc: Global,
+        group: u32,
+        proc: u32,
+        place: u32,
+    ) -> Result<ClauseTable, Memory> {
+        clauses_at(alloc, self.program, group, proc, place, self.scope)
     }
 }
 
