@@ -1,6 +1,6 @@
 -- Owning fields from struct to struct.
-use Rattle.std.proofs.Common.{◌≡◌, ℕ, zero, suc, ◌+◌, ◌<◌, ◌≤◌, ◌⊎◌, inl, inr, ◌↔◌, Bool, true, false, cond, MatchBool, List, [], ◌∷◌, ◌++◌, length, get_or, set, Option, Some, None, refl, sym, ap, subst, ◌∙◌, arith}
-use Rattle.std.proofs.lemmas.Bool.{cases_lt, cases_eq, cases_Bool, false≢true}
+use Rattle.std.proofs.Common.{◌≡◌, ℕ, zero, suc, ◌+◌, ◌<◌, ◌≤◌, ◌⊎◌, inl, inr, ◌↔◌, Bool, true, false, cond, List, [], ◌∷◌, ◌++◌, length, get_or, set, eqb, Option, Some, None, refl, sym, ap, subst, ◌∙◌, arith}
+use Rattle.std.proofs.lemmas.Bool.{cases_lt, cases_eq, eqb-true, eq-eqb, false≢true}
 use Rattle.std.proofs.lemmas.List.{get_or_past, length-set, get_or-set_same, get_or-set_other}
 use Rattle.std.proofs.lemmas.List.Elements.{Contains-push, Contains-push_cases, Contains-append_left, All-get_or}
 use Rattle.std.specs.List.{Contains, All}
@@ -16,7 +16,8 @@ use Rattle.owner_vars.specs.Tables.{listed}
 use Rattle.owner_vars.specs.Unknowns.{field_count}
 use Rattle.owner_vars.proofs.Lists.{length-listed, get_or-listed}
 use Rattle.annotate.specs.Keeps.{field_owns, lead_of, leads_back, Leads, LeadsAlong, LeadsOn, LeadsBack, TellsBack, AreLeads, with_lead}
-use Rattle.annotate.specs.Reach.{Steps, StepsAlong, Reaches, AreWithin, IsRow, AreRows, reach}
+use Rattle.annotate.specs.Reach.{Steps, StepsAlong, Reaches, AreMutual, AreWithin}
+use Rattle.annotate.specs.Rings.{mark_at, AreRings}
 
 -- What leads where exists
 
@@ -191,33 +192,30 @@ module _ (g : FlowGraph) (phi : List Bool) (lists : List (List ℕ)) (leads : Ar
   to_steps p [] q h = h
   to_steps p (r ∷ rs) q h = ((leads.each p r).1 h.0, to_steps r rs q h.1)
 
-  module _ (graph : IsFlowGraph g) (numbered : FieldsAreNumbered g) (rows : List (List Bool)) (are : AreRows lists rows) where
-    told : (p q : ℕ) → p < length g.structs → q < length g.structs → MatchBool (reach rows p q) (Reaches lists p q) (Reaches lists p q → ⊥)
-    told p q small low = (are.each p (omega (arith, small, leads.count))).each q (omega (arith, low, leads.count))
+  module _ (graph : IsFlowGraph g) (numbered : FieldsAreNumbered g) (marks : List ℕ) (are : AreRings lists marks) where
+    told : (p q : ℕ) → p < length g.structs → q < length g.structs → (mark_at marks p ≡ mark_at marks q) ↔ AreMutual lists p q
+    told p q small low = are.each p q (omega (arith, small, leads.count)) (omega (arith, low, leads.count))
 
-    yes_if : (P : Type 0) (b : Bool) → MatchBool b P (P → ⊥) → b ≡ true → P
-    yes_if P true h e = h
-    yes_if P false h e = absurd (false≢true e)
-
-    is_true : (P : Type 0) (b : Bool) → MatchBool b P (P → ⊥) → P → b ≡ true
-    is_true P true h p = refl
-    is_true P false h p = absurd (h p)
-
-    pub tells : TellsBack g phi (leads_back g phi rows)
+    pub tells : TellsBack g phi (leads_back g phi marks)
     tells f some within = (there (lead_of g phi f) refl, back)
       where
-        there : (o : Option ℕ) → lead_of g phi f ≡ o → leads_back g phi rows f ≡ true → LeadsBack g phi f
-        there None is e = absurd (false≢true (ap (λ o. option_map_or (λ z. reach rows z (field_owner g f)) o false) (sym is) ∙ e))
+        there : (o : Option ℕ) → lead_of g phi f ≡ o → leads_back g phi marks f ≡ true → LeadsBack g phi f
+        there None is e = absurd (false≢true (ap (λ o. option_map_or (λ z. eqb (mark_at marks z) (mark_at marks (field_owner g f))) o false) (sym is) ∙ e))
         there (Some z) is e =
             let parts = lead_parts g phi f z is in
             let low = target_exists g graph numbered f some within z parts.1 in
-            let yes : reach rows z (field_owner g f) ≡ true = ap (λ o. option_map_or (λ y. reach rows y (field_owner g f)) o false) (sym is) ∙ e in
-            let reached = yes_if (Reaches lists z (field_owner g f)) (reach rows z (field_owner g f)) (told z (field_owner g f) low (owner_exists g graph numbered f some within)) yes in
-            record { owns = parts.0; target = z; to = parts.1; back = (reached.0, to_leads z reached.0 (field_owner g f) reached.1) }
+            let yes : eqb (mark_at marks z) (mark_at marks (field_owner g f)) ≡ true =
+            ap (λ o. option_map_or (λ y. eqb (mark_at marks y) (mark_at marks (field_owner g f))) o false) (sym is) ∙ e in
+            let both = (told z (field_owner g f) low (owner_exists g graph numbered f some within)).0 (eqb-true (mark_at marks z) (mark_at marks (field_owner g f)) yes) in
+            record { owns = parts.0; target = z; to = parts.1; back = (both.0.0, to_leads z both.0.0 (field_owner g f) both.0.1) }
 
-        back : LeadsBack g phi f → leads_back g phi rows f ≡ true
+        back : LeadsBack g phi f → leads_back g phi marks f ≡ true
         back h =
             let low = target_exists g graph numbered f some within h.target h.to in
-            ap (λ o. option_map_or (λ y. reach rows y (field_owner g f)) o false) (lead_is g phi f h.target h.owns h.to)
-            ∙ is_true (Reaches lists h.target (field_owner g f)) (reach rows h.target (field_owner g f)) (told h.target (field_owner g f) low (owner_exists g graph numbered f some within))
-            (h.back.0, to_steps h.target h.back.0 (field_owner g f) h.back.1)
+            let lead : Leads g phi (field_owner g f) h.target = record { field = f; some = some; within = within; owns = h.owns; from = refl; to = h.to } in
+            let both : AreMutual lists h.target (field_owner g f) = (
+              (h.back.0, to_steps h.target h.back.0 (field_owner g f) h.back.1),
+              (h.target ∷ [], ((leads.each (field_owner g f) h.target).1 lead, refl)),
+            ) in
+            ap (λ o. option_map_or (λ y. eqb (mark_at marks y) (mark_at marks (field_owner g f))) o false) (lead_is g phi f h.target h.owns h.to)
+            ∙ eq-eqb (mark_at marks h.target) (mark_at marks (field_owner g f)) ((told h.target (field_owner g f) low (owner_exists g graph numbered f some within)).1 both)

@@ -6,4 +6,8 @@ pub mod OrderRows
 pub mod SeatRows
 pub mod TextRows
 pub mod ReachRows
+pub mod WalkRows
+pub mod BackRows
+pub mod PaintRows
+pub mod RingRows
 pub mod LeadRows

@@ -1,12 +1,12 @@
 -- Owning fields that lead back to their own struct, so that they may be part of a cycle that is never freed.
-use Rattle.std.specs.Prelude.{◌≡◌, ℕ, ◌-◌, ◌<◌, ◌≤◌, ◌↔◌, Bool, true, false, cond, List, [], ◌∷◌, ◌++◌, length, Option, Some, None, slice_index_or, slice_set}
+use Rattle.std.specs.Prelude.{◌≡◌, ℕ, ◌-◌, ◌<◌, ◌≤◌, ◌↔◌, Bool, true, false, cond, nat_eq, List, [], ◌∷◌, ◌++◌, length, Option, Some, None, slice_index_or, slice_set}
 use Rattle.std.specs.List.{Contains}
 use Rattle.std.specs.Option.{option_map_or}
 use Rattle.flow_graph.specs.FlowGraph.{FlowGraph}
 use Rattle.owner_vars.specs.Fields.{field_owner, field_target}
 use Rattle.owner_vars.specs.Unknowns.{field_count}
 use Rattle.annotate.specs.Instances.{bit_at}
-use Rattle.annotate.specs.Reach.{reach}
+use Rattle.annotate.specs.Rings.{mark_at}
 
 -- whether a field owns, of the bits of all fields, which are counted from 1
 abbrev pub field_owns : List Bool → ℕ → Bool
@@ -51,9 +51,9 @@ pub record AreLeads (g : FlowGraph) (phi : List Bool) (lists : List (List ℕ)) 
 abbrev pub lead_of : FlowGraph → List Bool → ℕ → Option ℕ
 lead_of g phi f = cond (field_owns phi f) (field_target g f) None
 
--- whether it leads back, by rows that tell which structs lead to which
-abbrev pub leads_back : FlowGraph → List Bool → List (List Bool) → ℕ → Bool
-leads_back g phi rows f = option_map_or (λ z. reach rows z (field_owner g f)) (lead_of g phi f) false
+-- whether it leads back, by marks of which two are equal where each of the two structs leads to the other
+abbrev pub leads_back : FlowGraph → List Bool → List ℕ → ℕ → Bool
+leads_back g phi marks f = option_map_or (λ z. nat_eq (mark_at marks z) (mark_at marks (field_owner g f))) (lead_of g phi f) false
 
 -- lists by struct, and in that of the field's struct where it leads
 abbrev pub with_lead : FlowGraph → List Bool → ℕ → List (List ℕ) → List (List ℕ)

@@ -6,5 +6,8 @@ pub mod Conflict
 pub mod Instances
 pub mod Locals
 pub mod Reach
+pub mod Rings
+pub mod Walks
+pub mod Paint
 pub mod Keeps
 pub mod Annotation

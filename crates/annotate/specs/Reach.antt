@@ -1,5 +1,5 @@
 -- What lists of steps lead to: list p has the numbers to which a step leads from p.
-use Rattle.std.specs.Prelude.{◌≡◌, ℕ, ◌<◌, Bool, false, List, [], ◌∷◌, length, MatchBool, slice_index_or}
+use Rattle.std.specs.Prelude.{◌≡◌, ℕ, ◌<◌, List, [], ◌∷◌, length, slice_index_or}
 use Rattle.std.specs.List.{Contains}
 
 abbrev pub Steps : List (List ℕ) → ℕ → ℕ → Type 0
@@ -13,18 +13,10 @@ StepsAlong lists p (r ∷ rs) q = Steps lists p r × StepsAlong lists r rs q
 abbrev pub Reaches : List (List ℕ) → ℕ → ℕ → Type 0
 Reaches lists p q = (through : List ℕ) × StepsAlong lists p through q
 
+-- each reaches the other
+abbrev pub AreMutual : List (List ℕ) → ℕ → ℕ → Type 0
+AreMutual lists p q = Reaches lists p q × Reaches lists q p
+
 -- steps lead to numbers that have a list
 abbrev pub AreWithin : List (List ℕ) → Type 0
 AreWithin lists = (p q : ℕ) → Steps lists p q → q < length lists
-
--- the row tells what steps lead to from p
-pub record IsRow (lists : List (List ℕ)) (p : ℕ) (row : List Bool) : Type 0 where
-  pub count : length row ≡ length lists
-  pub each : (q : ℕ) → q < length lists → MatchBool (slice_index_or row q false) (Reaches lists p q) (Reaches lists p q → ⊥)
-
-pub record AreRows (lists : List (List ℕ)) (rows : List (List Bool)) : Type 0 where
-  pub count : length rows ≡ length lists
-  pub each : (p : ℕ) → p < length lists → IsRow lists p (slice_index_or rows p [])
-
-abbrev pub reach : List (List Bool) → ℕ → ℕ → Bool
-reach rows p q = slice_index_or (slice_index_or rows p []) q false

@@ -12,21 +12,24 @@
 //! for names of constraints, on `owner_vars` for the numbers of fields and bits, and on `itoa`.
 #![tactic(auto)]
 
+mod backwards;
 mod conflict;
 mod fields;
-mod found;
 mod heads;
 mod kinds;
 mod leads;
+mod lists;
 mod locals;
 mod names;
 mod order;
+mod paint;
 mod positions;
 mod procs;
-mod reach;
+mod rings;
 mod seats;
 mod source;
 mod spans;
+mod walk;
 mod whole;
 
 pub use conflict::{conflict_text, slot_text};

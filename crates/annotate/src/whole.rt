@@ -8,7 +8,7 @@ use crate::heads::{put_externs, put_fields};
 use crate::leads::{leads, put_keeps};
 use crate::order::in_order;
 use crate::procs::put_procs;
-use crate::reach::rows;
+use crate::rings::rings;
 use crate::source::Source;
 use c_tree::Memory;
 use own_cert::{Certificate, Instance};
@@ -40,8 +40,8 @@ fn put_kept(alloc: Global, out: &mut Vec<u8>, source: &Source, phi: &[bool]) -> 
     source.graph.law();
     field_laws();
     let lists = leads(alloc, source, phi)?;
-    let rows = rows(alloc, &lists)?;
-    put_keeps(out, source, phi, &rows)?;
+    let marks = rings(alloc, &lists)?;
+    put_keeps(out, source, phi, &marks)?;
     Ok(())
 }
 
@@ -70,8 +70,7 @@ fn lines(
 /// says it line by line. It means something for good certificates; bits that are lacking count as 0. The one refusal is want
 /// of memory.
 ///
-/// It takes time in proportion to the certificate and the text, but that instances are sorted, and that where owning fields lead
-/// is found from each struct anew.
+/// It takes time in proportion to the program, the certificate and the text, but that instances are sorted.
 pub fn annotation(alloc: Global, program: &Program, c: &Certificate) -> Result<Vec<u8>, Memory>
     ensures { IfOk result (λ text. IsAnnotation program.now c.now text.items) }
 {
