@@ -5,15 +5,17 @@ use Rattle.std.specs.List.{All, flat_map, range_with_len}
 use Rattle.std.proofs.lemmas.List.{length-take-le, length-drop, map-append}
 use Rattle.std.proofs.lemmas.List.Sums.{sum_by-cons, sum_by_more, sum_by-take-le}
 use Rattle.conflict_proof.specs.declared.names.ConstraintName.{ConstraintName}
+use Rattle.conflict_proof.specs.declared.derivation.Line.{Line}
 use Rattle.own_cert.specs.declared.certificate.PlaceBits.{PlaceBits}
 use Rattle.own_cert.specs.declared.certificate.Instance.{Instance}
 use Rattle.verdict_meaning.specs.declared.callee.Callee.{Callee}
-use Rattle.verdict_meaning.specs.Systems.{System, members, callee, callees, callee_parts, place_count, count}
+use Rattle.verdict_meaning.specs.Systems.{System, root, members, callee, callees, callee_parts, place_count, count}
 use Rattle.verdict_meaning.specs.Solutions.{sigma_by}
 use Rattle.verdict_meaning.specs.Certificates.{bit_at, bits_at_places, AreRows, Spot, spots_of, spot_of}
 use Rattle.call_search.specs.declared.entries.Entry.{Entry}
+use Rattle.call_search.specs.Answers.{HasSolution}
 use Rattle.call_search.specs.Entries.{in_group, IsAnswerAt, IsSized}
-use Rattle.call_search.specs.Made.{all_of, before_group, AreBases, IsNumberOf, AreSiteNumbers, row_at, rows_of, rows_from, AreMadeOf, IsMadeOf, IsMade, IsComplete, IsSolution}
+use Rattle.call_search.specs.Made.{all_of, before_group, AreBases, IsNumberOf, AreSiteNumbers, row_at, rows_of, rows_from, AreMadeOf, IsMadeOf, IsMade, IsComplete}
 use Rattle.call_search.proofs.Lists.{push_cases, append_none, get_within}
 use Rattle.call_search.proofs.Faces.{phi_values}
 use Rattle.call_search.proofs.Made.{at_index, drop_more, take_two}
@@ -276,16 +278,16 @@ entry_within s e d bits f op sp de sized be fe oe =
     let z : length bits ≡ count s d.group = ap length be ∙ mine.size in
     omega arith
 
-pub solution_complete : (s : System) (U : ConstraintName → Bool) (top : List Bool) (t : List (List Entry)) → IsSolution s U top t → IsComplete s t
-solution_complete s U top t h = record {
-  sized = λ g n e at. let k = h.has.table.kept g n e at in record { there = k.there; size = k.size };
-  group = h.has.table.group;
-  answered = h.has.full.down;
+pub solution_complete : (s : System) (U : ConstraintName → Bool) (lines : List Line) (top : List Bool) (t : List (List Entry)) → HasSolution s U lines top t → IsComplete s t
+solution_complete s U lines top t h = record {
+  sized = λ g n e at. let k = h.table.kept g n e at in record { there = k.there; size = k.size };
+  group = h.table.group;
+  answered = h.full.down;
 }
 
-pub solution_made : (s : System) (U : ConstraintName → Bool) (top : List Bool) (t : List (List Entry)) (n : ℕ) (phi : List Bool) (is : List Instance) → IsSolution s U top t → n ≡ s.fields → phi ≡ take n top → AreMadeOf s t (all_of t) is
+pub solution_made : (s : System) (top : List Bool) (t : List (List Entry)) (n : ℕ) (phi : List Bool) (is : List Instance) → length top ≡ count s (root s) → n ≡ s.fields → phi ≡ take n top → AreMadeOf s t (all_of t) is
     → IsMade s top t (record { phi = phi; instances = is })
-solution_made s U top t n phi is h ne pe m = record { phi = pe ∙ phi_values s top n ne h.has.asker.size; instances = m }
+solution_made s top t n phi is size ne pe m = record { phi = pe ∙ phi_values s top n ne size; instances = m }
 
 pub other_default : (t : List (List Entry)) (bs : List ℕ) (g : ℕ) → AreBases t bs (length t) → g < length t → get_or bs g 0 ≡ get_or bs g (get_or bs g 0)
 other_default t bs g b lt = at (let h = b.count in omega arith)

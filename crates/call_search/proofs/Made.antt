@@ -80,13 +80,13 @@ at_index (es ∷ t) zero k e h = ap (λ n. slice_get (es ++ all_of t) n) (omega 
 at_index (es ∷ t) (suc g) k e h =
     ap (λ n. slice_get (es ++ all_of t) n) (let z = length-append es (all_of (take g t)) in omega arith) ∙ get_past es (all_of t) (before_group t g + k) ∙ at_index t g k e h
 
-record Indexed (t : List (List Entry)) (n : ℕ) (e : Entry) : Type 0 where
-  group : ℕ
-  number : ℕ
-  there : slice_get (in_group t group) number ≡ Some e
-  is : n ≡ before_group t group + number
+pub record Indexed (t : List (List Entry)) (n : ℕ) (e : Entry) : Type 0 where
+  pub group : ℕ
+  pub number : ℕ
+  pub there : slice_get (in_group t group) number ≡ Some e
+  pub is : n ≡ before_group t group + number
 
-index_of : (t : List (List Entry)) (n : ℕ) (e : Entry) → slice_get (all_of t) n ≡ Some e → Indexed t n e
+pub index_of : (t : List (List Entry)) (n : ℕ) (e : Entry) → slice_get (all_of t) n ≡ Some e → Indexed t n e
 index_of [] n e h = cc
 index_of (es ∷ t) n e h =
     ⊎_elim
@@ -97,7 +97,7 @@ index_of (es ∷ t) n e h =
     further : (m : ℕ) → n ≡ length es + m → Indexed t m e → Indexed (es ∷ t) n e
     further m at r = record { group = suc r.group; number = r.number; there = r.there; is = let z = length-append es (all_of (take r.group t)) in let i = r.is in omega arith }
 
-before_mono : (t : List (List Entry)) (g h : ℕ) → g < h → before_group t g + length (in_group t g) ≤ before_group t h
+pub before_mono : (t : List (List Entry)) (g h : ℕ) → g < h → before_group t g + length (in_group t g) ≤ before_group t h
 before_mono [] zero h lt = omega arith
 before_mono [] (suc g) h lt = omega arith
 before_mono (es ∷ t) g zero lt = absurd (omega arith)
@@ -124,14 +124,14 @@ sites_are s is (c ∷ cs) (n ∷ ns) o bits e h =
     sum a b d = omega arith
 
 module _ (s : System) (U : ConstraintName → Bool) (lines : List Line) (top : List Bool) (t : List (List Entry)) (shaped : IsShaped s) (sol : HasSolution s U lines top t) (c : Certificate) (made : IsMade s top t c) where
-  kept_at : (n : ℕ) (e : Entry) → slice_get (all_of t) n ≡ Some e → IsKept s U lines (phi_by s (bit_at top)) e
+  pub kept_at : (n : ℕ) (e : Entry) → slice_get (all_of t) n ≡ Some e → IsKept s U lines (phi_by s (bit_at top)) e
   kept_at n e at = let r : Indexed t n e = index_of t n e at in sol.table.kept r.group r.number e r.there
 
   group_at : (n : ℕ) (e : Entry) (at : slice_get (all_of t) n ≡ Some e) → e.group ≡ (index_of t n e at).group
   group_at n e at = let r : Indexed t n e = index_of t n e at in sol.table.group r.group r.number e r.there
 
   -- the entry that an instance is made of
-  entry_of : (n : ℕ) (i : Instance) → slice_get c.instances n ≡ Some i → (e : Entry) × (slice_get (all_of t) n ≡ Some e)
+  pub entry_of : (n : ℕ) (i : Instance) → slice_get c.instances n ≡ Some i → (e : Entry) × (slice_get (all_of t) n ≡ Some e)
   entry_of n i at = get_at (all_of t) n (let h = get_within c.instances i n at in let k = made.instances.count in omega arith)
 
   instance_of : (n : ℕ) (e : Entry) → slice_get (all_of t) n ≡ Some e → (i : Instance) × (slice_get c.instances n ≡ Some i)
@@ -141,7 +141,7 @@ module _ (s : System) (U : ConstraintName → Bool) (lines : List Line) (top : L
   long e k = let h : length e.bits ≡ count s e.group = k.size in omega arith
 
   -- a procedure's interface in an instance is that by the entry's bits
-  face_is : (e : Entry) (i : Instance) (k : ℕ) → IsKept s U lines (phi_by s (bit_at top)) e → IsMadeOf s t e i → Contains (members s e.group) k → face_of s i k ≡ pi_by s e.group (bit_at e.bits) k
+  pub face_is : (e : Entry) (i : Instance) (k : ℕ) → IsKept s U lines (phi_by s (bit_at top)) e → IsMadeOf s t e i → Contains (members s e.group) k → face_of s i k ≡ pi_by s e.group (bit_at e.bits) k
   face_is e i k kept m there =
       let l = long e kept in
       let p : ℕ = sum_by s.parts (members s e.group) in
@@ -167,7 +167,7 @@ module _ (s : System) (U : ConstraintName → Bool) (lines : List Line) (top : L
       ∙ face_is r.entry j.0 r.entry.proc kj mj kj.there.member
       ∙ r.answers.face_is
 
-  bits_are : (n : ℕ) (e : Entry) (i : Instance) → slice_get (all_of t) n ≡ Some e → IsMadeOf s t e i → bits_of s c i ≡ e.bits
+  pub bits_are : (n : ℕ) (e : Entry) (i : Instance) → slice_get (all_of t) n ≡ Some e → IsMadeOf s t e i → bits_of s c i ≡ e.bits
   bits_are n e i at mi =
       let kept : IsKept s U lines (phi_by s (bit_at top)) e = kept_at n e at in
       let l = long e kept in

@@ -17,9 +17,11 @@ use Rattle.call_search.specs.declared.search.Found.{Found}
 use Rattle.call_search.specs.declared.search.Found.TheVariants as found
 use Rattle.call_search.specs.Ledgers.{Extends, IsOver}
 use Rattle.call_search.specs.Answers.{FoundIs, IsRefuting, HasSolution}
-use Rattle.call_search.specs.Made.{IsSolution}
+use Rattle.call_search.specs.Shapes.{IsShaped}
+use Rattle.call_search.specs.Made.{IsMade}
 use Rattle.call_search.specs.Verdicts.{AreKnown, BeginsWith, AreLearnt, IsAcceptance, IsRefutation, IsUndecided}
 use Rattle.call_search.proofs.Lists.{get_within}
+use Rattle.call_search.proofs.Made.{made_is_good, made_has_no_needless}
 use Rattle.call_search.proofs.Grow.{line-append, valid-push, once-push, cost-append}
 
 -- what a line of the front says it says of the front
@@ -150,7 +152,13 @@ judged_accepted s U known old new t o top c ls are le oe is l good needed =
       learnt = subst (λ (xs : List Line). AreLearnt s U known xs) (sym l) (record { begins = record { more = here.0.more; is = here.0.is ∙ ap (λ xs. xs ++ here.0.more) le }; valid = here.0.ledger.valid; once = here.0.ledger.once });
     }
 
-pub found_made : (s : System) (U : ConstraintName → Bool) (old new : Ledger) (t : List (List Entry)) (o : Found) (top xs : List Bool) → o ≡ found.Solution top → FoundIs s U old new t o → xs ≡ top → IsSolution s U xs t
-found_made s U old new t o top xs oe is xe =
+pub found_has : (s : System) (U : ConstraintName → Bool) (old new : Ledger) (t : List (List Entry)) (o : Found) (top xs : List Bool) → o ≡ found.Solution top → FoundIs s U old new t o → xs ≡ top → HasSolution s U new.lines xs t
+found_has s U old new t o top xs oe is xe =
     let here : Extends s U old new × HasSolution s U new.lines top t = subst (FoundIs s U old new t) oe is in
-    subst (λ (ys : List Bool). IsSolution s U ys t) (sym xe) (record { lines = new.lines; has = here.1 })
+    subst (λ (ys : List Bool). HasSolution s U new.lines ys t) (sym xe) here.1
+
+pub made_good : (s : System) (U : ConstraintName → Bool) (old new : Ledger) (t : List (List Entry)) (o : Found) (top xs : List Bool) (c : Certificate) → IsShaped s → o ≡ found.Solution top → FoundIs s U old new t o → xs ≡ top → IsMade s xs t c → IsGoodIn s U c
+made_good s U old new t o top xs c shaped oe is xe made = made_is_good s U new.lines xs t shaped (found_has s U old new t o top xs oe is xe) c made
+
+pub made_needed : (s : System) (U : ConstraintName → Bool) (old new : Ledger) (t : List (List Entry)) (o : Found) (top xs : List Bool) (c : Certificate) → IsShaped s → o ≡ found.Solution top → FoundIs s U old new t o → xs ≡ top → IsMade s xs t c → HasNoNeedless s c
+made_needed s U old new t o top xs c shaped oe is xe made = made_has_no_needless s U new.lines xs t shaped (found_has s U old new t o top xs oe is xe) c made

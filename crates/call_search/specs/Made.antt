@@ -2,8 +2,6 @@
 use Rattle.std.specs.Prelude.{sum_by}
 use Rattle.std.specs.Prelude.{◌≡◌, ℕ, ◌+◌, ◌*◌, map, Bool, List, [], ◌∷◌, ◌++◌, Some, length, take, drop, slice_get}
 use Rattle.std.specs.List.{range_with_len}
-use Rattle.conflict_proof.specs.declared.names.ConstraintName.{ConstraintName}
-use Rattle.conflict_proof.specs.declared.derivation.Line.{Line}
 use Rattle.own_cert.specs.declared.certificate.PlaceBits.{PlaceBits}
 use Rattle.own_cert.specs.declared.certificate.Instance.{Instance}
 use Rattle.own_cert.specs.declared.certificate.Certificate.{Certificate}
@@ -12,7 +10,6 @@ use Rattle.verdict_meaning.specs.Systems.{System, members, callee, callees, call
 use Rattle.verdict_meaning.specs.Solutions.{phi_by, sigma_by}
 use Rattle.verdict_meaning.specs.Certificates.{bit_at, bits_at_places, AreRows}
 use Rattle.call_search.specs.declared.entries.Entry.{Entry}
-use Rattle.call_search.specs.Answers.{HasSolution}
 use Rattle.call_search.specs.Entries.{Answers, in_group, AreSized, AreDown}
 
 -- the instances of all groups, one group after another
@@ -77,8 +74,3 @@ pub record AreMadeOf (s : System) (t : List (List Entry)) (es : List Entry) (is 
 pub record IsMade (s : System) (top : List Bool) (t : List (List Entry)) (c : Certificate) : Type 0 where
   pub phi : c.phi ≡ phi_by s (bit_at top)
   pub instances : AreMadeOf s t (all_of t) c.instances
-
--- bits of the root with instances for all that is asked for, whatever lines there are
-pub record IsSolution (s : System) (U : ConstraintName → Bool) (top : List Bool) (t : List (List Entry)) : Type 0 where
-  pub lines : List Line
-  pub has : HasSolution s U lines top t

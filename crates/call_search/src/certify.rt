@@ -4,14 +4,14 @@ ghost use Rattle.std.specs.Prelude.{◌≡◌, ◌<◌, ◌≤◌, ◌+◌, ◌*
 ghost use Rattle.std.specs.List.{range_with_len};
 ghost use Rattle.verdict_meaning.specs.Systems.{root, members, callee, callees, callee_parts, count};
 ghost use Rattle.verdict_meaning.specs.Solutions.{phi_by};
-ghost use Rattle.verdict_meaning.specs.Certificates.{bit_at, IsGoodIn, HasNoNeedless};
+ghost use Rattle.verdict_meaning.specs.Certificates.{bit_at};
 ghost use Rattle.call_search.specs.Shapes.{IsThere};
 ghost use Rattle.call_search.specs.Entries.{in_group, IsSized, AreSized, AllAnswered, IsAnswered};
-ghost use Rattle.call_search.specs.Made.{all_of, before_group, AreBases, IsNumberOf, AreSiteNumbers, row_at, rows_from, IsMadeOf, AreMadeOf, IsMade, IsComplete, IsSolution};
+ghost use Rattle.call_search.specs.Made.{all_of, before_group, AreBases, IsNumberOf, AreSiteNumbers, row_at, rows_from, IsMadeOf, AreMadeOf, IsMade, IsComplete};
 
 use crate::entries::{Entries, Entry, asked_face, find, listed};
 use crate::given::copied;
-use crate::groups::Groups;
+use crate::groups::Shapes;
 use c_tree::Memory;
 use own_cert::{Bits, Certificate, Instance, Instances, Numbers, PlaceBits, Rows};
 use std::alloc::Global;
@@ -41,7 +41,7 @@ fn bases(alloc: Global, table: &Vec<Entries>) -> Result<Vec<u32>, Memory>
 }
 
 /// The number of the instance of a procedure with an interface, which is there.
-fn number_of<G: Groups>(
+fn number_of<G: Shapes>(
     groups: &G,
     table: &Vec<Entries>,
     bases: &[u32],
@@ -61,7 +61,7 @@ fn number_of<G: Groups>(
 }
 
 /// The numbers of the instances for which a group's sites ask by its bits.
-fn sites_of<G: Groups>(
+fn sites_of<G: Shapes>(
     alloc: Global,
     groups: &G,
     table: &Vec<Entries>,
@@ -114,7 +114,7 @@ fn push_rows(
 }
 
 /// The bits at the places of a group's members, which begin at a bit.
-fn rows_of<G: Groups>(
+fn rows_of<G: Shapes>(
     alloc: Global,
     groups: &G,
     bits: &[bool],
@@ -139,7 +139,7 @@ fn rows_of<G: Groups>(
 }
 
 /// The instance of a certificate that an instance of the table makes.
-fn instance_of<G: Groups>(
+fn instance_of<G: Shapes>(
     alloc: Global,
     groups: &G,
     table: &Vec<Entries>,
@@ -172,7 +172,7 @@ fn instance_of<G: Groups>(
 }
 
 /// Adds the instances that those of a group make.
-fn push_group<G: Groups>(
+fn push_group<G: Shapes>(
     alloc: Global,
     out: &mut Vec<Instance>,
     groups: &G,
@@ -194,7 +194,7 @@ fn push_group<G: Groups>(
 }
 
 /// The instances that those of a table make, group by group.
-fn instances_of<G: Groups>(
+fn instances_of<G: Shapes>(
     alloc: Global,
     groups: &G,
     table: &Vec<Entries>,
@@ -212,15 +212,16 @@ fn instances_of<G: Groups>(
 }
 
 /// The certificate that a solution makes: its instances stand group by group.
-pub fn certificate<G: Groups>(
+pub fn certificate<G: Shapes>(
     alloc: Global,
     groups: &G,
     top: &[bool],
     table: &Vec<Entries>,
 ) -> Result<Certificate, Memory>
-    requires { IsSolution (G.system groups.now) (G.counting groups.now) top.now table.now.items }
-    ensures good { IfOk result (IsGoodIn (G.system groups.now) (G.counting groups.now)) }
-    ensures needed { IfOk result (HasNoNeedless (G.system groups.now)) }
+    requires top { length top.now ≡ count (G.system groups.now) (root (G.system groups.now)) }
+    requires table { length table.now.items ≡ root (G.system groups.now) }
+    requires complete { IsComplete (G.system groups.now) table.now.items }
+    ensures { IfOk result (IsMade (G.system groups.now) top.now table.now.items) }
 {
     let phi = copied(alloc, &top[..groups.fields() as usize])?;
     let instances = instances_of(alloc, groups, table)?;

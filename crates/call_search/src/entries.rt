@@ -9,7 +9,7 @@ ghost use Rattle.call_search.specs.Shapes.{IsThere};
 ghost use Rattle.call_search.specs.Entries.{IsSized, own_face, Answers, IsAnswerAt, IsAnswered, NoneAnswers, IsPut, in_group};
 ghost use Rattle.call_search.specs.declared.entries.Entry.{Entry};
 
-use crate::groups::Groups;
+use crate::groups::Shapes;
 use c_tree::Memory;
 use own_cert::Bits;
 use std::marker::Model;
@@ -39,7 +39,7 @@ impl Model for Entries {
 }
 
 /// The interface of a procedure by the bits of its group.
-pub fn own_face<'a, G: Groups>(groups: &G, of: Callee, bits: &'a [bool]) -> &'a [bool]
+pub fn own_face<'a, G: Shapes>(groups: &G, of: Callee, bits: &'a [bool]) -> &'a [bool]
     requires there { IsThere (G.system groups.now) of }
     requires size { length bits.now ≡ count (G.system groups.now) of.group }
     ensures { result.now ≡ pi_by (G.system groups.now) of.group (bit_at bits.now) of.proc }
@@ -50,7 +50,7 @@ pub fn own_face<'a, G: Groups>(groups: &G, of: Callee, bits: &'a [bool]) -> &'a 
 }
 
 /// The interface that a site of a group asks for.
-pub fn asked_face<'a, G: Groups>(groups: &G, bits: &'a [bool], group: u32, site: u32) -> &'a [bool]
+pub fn asked_face<'a, G: Shapes>(groups: &G, bits: &'a [bool], group: u32, site: u32) -> &'a [bool]
     requires group { group ≤ root (G.system groups.now) }
     requires site { site < length (callees (G.system groups.now) group) }
     requires size { length bits.now ≡ count (G.system groups.now) group }
@@ -63,7 +63,7 @@ pub fn asked_face<'a, G: Groups>(groups: &G, bits: &'a [bool], group: u32, site:
 }
 
 /// Whether the instance is of a procedure with an interface.
-fn is_answer<G: Groups>(groups: &G, entry: &Entry, callee: Callee, face: &[bool]) -> bool
+fn is_answer<G: Shapes>(groups: &G, entry: &Entry, callee: Callee, face: &[bool]) -> bool
     requires { IsSized (G.system groups.now) entry.now }
     ensures { MatchBool result (Answers (G.system groups.now) entry.now callee face.now) (Answers (G.system groups.now) entry.now callee face.now → ⊥) }
 {
@@ -81,7 +81,7 @@ fn is_answer<G: Groups>(groups: &G, entry: &Entry, callee: Callee, face: &[bool]
 }
 
 /// The number of an instance of a procedure with an interface.
-pub fn find<G: Groups>(
+pub fn find<G: Shapes>(
     groups: &G,
     entries: &[Entry],
     callee: Callee,
@@ -99,7 +99,7 @@ pub fn find<G: Groups>(
 }
 
 /// Whether there is an instance of a procedure with an interface.
-pub fn is_there<G: Groups>(groups: &G, entries: &[Entry], callee: Callee, face: &[bool]) -> bool
+pub fn is_there<G: Shapes>(groups: &G, entries: &[Entry], callee: Callee, face: &[bool]) -> bool
     requires { (n : ℕ) (e : Entry) → slice_get entries.now n ≡ Some e → IsSized (G.system groups.now) e }
     ensures { MatchBool result (IsAnswered (G.system groups.now) entries.now callee face.now) (NoneAnswers (G.system groups.now) entries.now callee face.now) }
 {

@@ -11,7 +11,7 @@ ghost use Rattle.call_search.specs.Answers.{AnsweredIs, AskedIs, DeepenedIs, Fil
 
 use crate::entries::{Entries, Entry, asked_face, is_there, listed, put};
 use crate::given::{copied, state};
-use crate::groups::{Groups, Outcome};
+use crate::groups::{Groups, Outcome, Shapes};
 use crate::keeping::take;
 use crate::ledger::Ledger;
 use crate::site::carry;
@@ -45,7 +45,7 @@ pub enum Asked {
 }
 
 /// The literals that say which fields own and what the interface of a procedure is.
-fn given_for<G: Groups>(
+pub fn given_for<G: Shapes>(
     alloc: Global,
     groups: &G,
     phi: &[bool],

@@ -27,11 +27,9 @@ pub enum Outcome {
     Spent(Line),
 }
 
-/// The constraints of a program, group by group, and a solver of one group.
-pub trait Groups {
+/// The groups of a program, the numbers of their unknowns, and whom their sites call.
+pub trait Shapes {
     ghost system: { Self → System };
-
-    ghost counting: { Self → ConstraintName → Bool };
 
     fn root(&self) -> u32
         ensures { result ≡ root (system self.now) };
@@ -88,6 +86,13 @@ pub trait Groups {
         requires site { site < length (callees (system self.now) group) }
         ensures { result ≡ before_site (system self.now) group site };
 
+    ghost shaped: { (g : Self) → IsShaped (system g) };
+}
+
+/// The constraints of a program, group by group, and a solver of one group.
+pub trait Groups: Shapes {
+    ghost counting: { Self → ConstraintName → Bool };
+
     /// Solves a group under what is given, with the lines that were carried to it.
     fn solve(
         &self,
@@ -96,10 +101,8 @@ pub trait Groups {
         group: u32,
         given: &[Lit],
     ) -> Result<Outcome, Memory>
-        requires ledger { IsLedger (system self.now) (counting self.now) ledger.old }
-        requires group { group ≤ root (system self.now) }
-        requires given { IsGiven (system self.now) group given.now }
-        ensures { IfOk result (OutcomeIs (system self.now) (counting self.now) group given.now ledger.old ledger.new) };
-
-    ghost shaped: { (g : Self) → IsShaped (system g) };
+        requires ledger { IsLedger (Self.system self.now) (counting self.now) ledger.old }
+        requires group { group ≤ root (Self.system self.now) }
+        requires given { IsGiven (Self.system self.now) group given.now }
+        ensures { IfOk result (OutcomeIs (Self.system self.now) (counting self.now) group given.now ledger.old ledger.new) };
 }

@@ -42,7 +42,7 @@ pub fn take<G: Groups>(
 }
 
 /// Whether a clause is true by bits, of which that of unknown 1 is the first.
-fn is_true(lits: &[Lit], bits: &[bool]) -> bool
+pub fn is_true(lits: &[Lit], bits: &[bool]) -> bool
     ensures { result ≡ clause_true (bit_at bits.now) lits.now }
 {
     for lit in lits {

@@ -1,8 +1,8 @@
 //! The search for a verdict on the constraints of a program, call group by call group.
 //!
 //! [`judge`] answers with a certificate, with a refutation, or with a derivation that shows that the budget is spent; what
-//! each of them is `specs/Verdicts` says, in the words of `verdict_meaning`. It stands over the trait [`Groups`], which says
-//! what the groups of a program are and solves one group under literals that are given.
+//! each of them is `specs/Verdicts` says, in the words of `verdict_meaning`. It stands over the trait [`Groups`], which solves
+//! one group under literals that are given; what the groups of a program are its supertrait [`Shapes`] says.
 //!
 //! The root is solved first. What its values ask for is then looked up or solved, the highest groups first, so that nothing
 //! is recursive: an instance of a group is asked for by higher groups alone. Where a group has no solution, the line that
@@ -25,6 +25,10 @@ mod ledger;
 mod search;
 mod site;
 
-pub use groups::{Groups, Outcome};
+pub use certify::certificate;
+pub use entries::{Entries, Entry, asked_face, find, is_there, own_face, put};
+pub use fill::given_for;
+pub use groups::{Groups, Outcome, Shapes};
 pub use judging::{Judged, judge};
+pub use keeping::is_true;
 pub use ledger::Ledger;

@@ -86,3 +86,10 @@ opened_whole own more a h = record {
   said = h.said;
   closed = λ k row at. cc;
 }
+
+-- the literals in order are those that are known
+pub in_order : (s : System) (U : ConstraintName → Bool) (g : ℕ) (rows : List NamedClause) (table : IsTableOf s U g rows) (own : List Literal) (set : IsSetOf s U g [] own) (ls : List Literal) (t : Trail)
+    → IsReopened own ls rows t → (lits : List Literal) → ((l : Literal) → Contains lits l ↔ Contains (known t) l) → (l : Literal) → Contains lits l ↔ Closed s U g ls l
+in_order s U g rows table own set ls t h lits same l =
+    let is = reopened_exact s U g rows table own set ls t h l in
+    ((λ a. is.0 ((same l).0 a)), (λ b. (same l).1 (is.1 b)))

@@ -3,7 +3,8 @@
 //! A literal is forced where a clause of a constraint in force holds it and its other literals are denied, and where it stands
 //! at a site for one that is forced in the group that is called there. [`closures`] gives for each call group, and for the root,
 //! the least set of literals that holds these (`Closed` in verdict_meaning's `specs/Closures`), and each literal's reason;
-//! [`Closures::closed`] the least set where some literals are given. [`contradiction`] finds the first set that holds an unknown
+//! [`Closures::closed`] the least set where some literals are given, and [`closed_over`] the same over a table and an [`Index`]
+//! that are made once for many lists of them. [`contradiction`] finds the first set that holds an unknown
 //! in both signs: such constraints cannot be met. [`layout`] gives the numbers of a program's groups: which unknowns stand for
 //! one another at sites.
 //!
@@ -31,6 +32,8 @@ pub use clash::Contradiction;
 pub use contradicting::contradiction;
 pub use findings::{Finding, Reason};
 pub use groups::closures;
+pub use index::Index;
 pub use laying::layout;
 pub use layouts::{Call, GroupLayout, Layout};
+pub use reopening::closed_over;
 pub use sets::{Closures, UnitSet};

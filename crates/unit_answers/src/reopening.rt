@@ -1,9 +1,12 @@
-ghost use Rattle.std.specs.Prelude.{◌≡◌, ◌+◌, ◌<◌, ◌≤◌, ◌^◌, [], length, IfOk, OnOk};
+ghost use Rattle.std.specs.Prelude.{◌≡◌, ℕ, ◌+◌, ◌<◌, ◌≤◌, ◌^◌, Bool, [], length, IfOk, OnOk};
 ghost use Rattle.std.specs.List.{All};
+ghost use Rattle.conflict_proof.specs.declared.names.ConstraintName.{ConstraintName};
 ghost use Rattle.transfer_rules.specs.Names.{in_scope};
+ghost use Rattle.verdict_meaning.specs.Systems.{System};
 ghost use Rattle.unit_answers.specs.Propagation.{IsWithin};
 ghost use Rattle.unit_answers.specs.Reopened.{Gives, IsOpened, IsReopened};
 ghost use Rattle.unit_answers.specs.Sets.{AreClosures, IsSetOf};
+ghost use Rattle.unit_answers.specs.Tables.{IsTableOf};
 ghost use Rattle.verdict_meaning.specs.Programs.{system_in};
 
 use crate::closing::{most_in, most_of};
@@ -51,6 +54,30 @@ impl Closures {
         let lits = trail.ascending(alloc)?;
         Ok(lits)
     }
+}
+
+/// The literals that propagation forces in a group where these are given: in ascending order of unknowns, the positive literal
+/// of an unknown before the negative one. The table has the group's clauses, and `own` is the group's set, for which nothing is
+/// given. What [`Closures::closed`] makes anew at each call is made once here for many lists of given literals. Its one refusal
+/// is want of memory.
+pub fn closed_over(
+    alloc: Global,
+    own: &[Lit],
+    given: &[Lit],
+    table: &ClauseTable,
+    index: &Index,
+    unknowns: u32,
+) -> Result<Vec<Lit>, Memory>
+    requires few { length table.now < 2 ^ 32 }
+    requires small { unknowns < 2 ^ 31 }
+    requires own { All (λ l. l.var ≤ unknowns) own.now }
+    requires given { All (λ l. l.var ≤ unknowns) given.now }
+    requires table { All (IsWithin unknowns) table.now }
+    ensures { IfOk result (λ ls. (s : System) → (U : ConstraintName → Bool) → (g : ℕ) → IsTableOf s U g table.now → IsSetOf s U g [] own.now → IsSetOf s U g given.now ls.items) }
+{
+    let trail = reopened(alloc, own, given, table, index, unknowns)?;
+    let lits = trail.ascending(alloc)?;
+    Ok(lits)
 }
 
 /// The literals of a set that is closed, others that are given, and what the clauses force by them.

@@ -8,7 +8,7 @@ use conflict_proof::{How, Line};
 use std::alloc::Global;
 
 /// For each line whether the last one is it, or stands on it directly or through others.
-pub(crate) fn needed_lines(alloc: Global, lines: &[Line]) -> Result<Vec<bool>, Memory>
+pub fn needed_lines(alloc: Global, lines: &[Line]) -> Result<Vec<bool>, Memory>
     requires { LeadBack lines.now }
     ensures { IfOk result (λ marks. AreNeeded lines.now marks.items) }
 {

@@ -11,4 +11,4 @@ pub take_at-requires-clause-within : goal.take_at-requires-clause-within
 take_at-requires-clause-within g c = subst (λ (xs : List Entry). c.in-Some.at < length xs) c.listed.ensures (get_within c.listed.result.now c.in-Some.ensures.entry c.in-Some.at c.in-Some.ensures.there)
 
 pub returns-in-None-clause-entry : goal.returns-in-None-clause-entry
-returns-in-None-clause-entry g c = subst (λ (xs : List Entry). NoneAnswers (g.G.Groups.system c.args.groups.now) xs c.args.callee c.args.face.now) c.listed.ensures c.in-None.ensures
+returns-in-None-clause-entry g c = subst (λ (xs : List Entry). NoneAnswers (g.G.Shapes.system c.args.groups.now) xs c.args.callee c.args.face.now) c.listed.ensures c.in-None.ensures

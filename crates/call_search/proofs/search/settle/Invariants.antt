@@ -6,9 +6,9 @@ use Rattle.call_search.proofs.search.settle.Given as goal
 
 abbrev pub invariant-again : goal.invariant-again
 invariant-again g l = record {
-  extends : Extends (g.G.Groups.system l.groups) (g.G.Groups.counting l.groups) l.fn.ledger l.ledger;
-  kept : AreKept (g.G.Groups.system l.groups) (g.G.Groups.counting l.groups) l.ledger.lines l.phi l.kept.items;
-  asker : IsAsker (g.G.Groups.system l.groups) (g.G.Groups.counting l.groups) l.ledger.lines l.phi (root (g.G.Groups.system l.groups)) l.top;
+  extends : Extends (g.G.Shapes.system l.groups) (g.G.Groups.counting l.groups) l.fn.ledger l.ledger;
+  kept : AreKept (g.G.Shapes.system l.groups) (g.G.Groups.counting l.groups) l.ledger.lines l.phi l.kept.items;
+  asker : IsAsker (g.G.Shapes.system l.groups) (g.G.Groups.counting l.groups) l.ledger.lines l.phi (root (g.G.Shapes.system l.groups)) l.top;
 }
 
 abbrev pub decreases-again : goal.decreases-again

@@ -8,15 +8,15 @@ use Rattle.call_search.proofs.site.carry.Goals as goal
 
 pub carried_clause-requires-clause-apart : goal.carried_clause-requires-clause-apart
 carried_clause-requires-clause-apart g c =
-    subst (λ (ls : List Literal). KeepsApart (image_at (g.G.Groups.system c.args.groups.now) c.args.group c.args.site) ls) (sym (c.line_lits.ensures.line c.requires.denied.line c.requires.denied.there))
-    (keeps_apart (g.G.Groups.system c.args.groups.now) (g.met.G.Groups.shaped c.args.groups.now) (bit_at c.args.bits.now) c.args.group c.args.site c.requires.site c.requires.denied.line.lits c.requires.denied.denied)
+    subst (λ (ls : List Literal). KeepsApart (image_at (g.G.Shapes.system c.args.groups.now) c.args.group c.args.site) ls) (sym (c.line_lits.ensures.line c.requires.denied.line c.requires.denied.there))
+    (keeps_apart (g.G.Shapes.system c.args.groups.now) (g.met.G.Shapes.shaped c.args.groups.now) (bit_at c.args.bits.now) c.args.group c.args.site c.requires.site c.requires.denied.line.lits c.requires.denied.denied)
 
 pub add-requires-clause-right : goal.add-requires-clause-right
 add-requires-clause-right g c =
-    next-right (g.G.Groups.system c.args.groups.now) (g.met.G.Groups.shaped c.args.groups.now) (bit_at c.args.bits.now) c.args.group c.args.site c.requires.site (g.G.Groups.counting c.args.groups.now) c.args.ledger.now c.requires.ledger c.requires.group c.args.bits.now refl c.requires.asker c.args.n c.requires.denied
+    next-right (g.G.Shapes.system c.args.groups.now) (g.met.G.Shapes.shaped c.args.groups.now) (bit_at c.args.bits.now) c.args.group c.args.site c.requires.site (g.G.Groups.counting c.args.groups.now) c.args.ledger.now c.requires.ledger c.requires.group c.args.bits.now refl c.requires.asker c.args.n c.requires.denied
     c.line_lits.result.now c.in_ok-lits.lits (c.line_lits.ensures.line c.requires.denied.line c.requires.denied.there) c.in_ok-lits.ensures (length c.args.ledger.now.lines + 1) refl
 
 pub add-requires-clause-new : goal.add-requires-clause-new
 add-requires-clause-new g c =
-    next-new (g.G.Groups.system c.args.groups.now) (g.met.G.Groups.shaped c.args.groups.now) (bit_at c.args.bits.now) c.args.group c.args.site c.requires.site (g.G.Groups.counting c.args.groups.now) c.args.ledger.now c.requires.ledger c.requires.group c.args.bits.now refl c.requires.asker c.args.n c.requires.denied
+    next-new (g.G.Shapes.system c.args.groups.now) (g.met.G.Shapes.shaped c.args.groups.now) (bit_at c.args.bits.now) c.args.group c.args.site c.requires.site (g.G.Groups.counting c.args.groups.now) c.args.ledger.now c.requires.ledger c.requires.group c.args.bits.now refl c.requires.asker c.args.n c.requires.denied
     c.line_lits.result.now c.in_ok-lits.lits (c.line_lits.ensures.line c.requires.denied.line c.requires.denied.there) c.in_ok-lits.ensures c.local_lines_are_true.ensures

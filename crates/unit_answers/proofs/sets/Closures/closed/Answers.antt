@@ -1,27 +1,12 @@
 use Rattle.std.proofs.Common.{◌≡◌, ℕ, List, [], length, sym, subst, rules}
-use Rattle.std.specs.Prelude.{◌↔◌}
-use Rattle.std.specs.Prelude.{Bool}
-use Rattle.conflict_proof.specs.declared.names.ConstraintName.{ConstraintName}
-use Rattle.std.specs.List.{Contains}
 use Rattle.zo_core.specs.Literals.{Literal}
 use Rattle.transfer_rules.specs.Names.{NamedClause, in_scope}
-use Rattle.verdict_meaning.specs.Systems.{System}
-use Rattle.verdict_meaning.specs.Closures.{Closed}
 use Rattle.unit_answers.specs.Sets.{IsSetOf}
 use Rattle.verdict_meaning.specs.Programs.{system_in}
 use Rattle.unit_answers.specs.Tables.{IsTableOf}
-use Rattle.unit_answers.specs.Trails.{Trail, known}
-use Rattle.unit_answers.specs.Reopened.{IsReopened}
 use Rattle.unit_answers.proofs.Rows.{tables_are, root_rows}
-use Rattle.unit_answers.proofs.GivenLemmas.{reopened_exact, opened_whole}
+use Rattle.unit_answers.proofs.GivenLemmas.{in_order, opened_whole}
 use Rattle.unit_answers.proofs.sets.Closures.closed.Goals as goal
-
--- the literals in order are those that are known
-in_order : (s : System) (U : ConstraintName → Bool) (g : ℕ) (rows : List NamedClause) (table : IsTableOf s U g rows) (own : List Literal) (set : IsSetOf s U g [] own) (ls : List Literal) (t : Trail)
-    → IsReopened own ls rows t → (lits : List Literal) → ((l : Literal) → Contains lits l ↔ Contains (known t) l) → (l : Literal) → Contains lits l ↔ Closed s U g ls l
-in_order s U g rows table own set ls t h lits same l =
-    let is = reopened_exact s U g rows table own set ls t h l in
-    ((λ a. is.0 ((same l).0 a)), (λ b. (same l).1 (is.1 b)))
 
 pub returns-then-group-len : goal.returns-then-group-len
 returns-then-group-len c =
