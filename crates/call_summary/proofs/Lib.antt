@@ -1,0 +1,10 @@
+mod Alike
+mod Whole
+mod Bounds
+mod Judgements
+mod Selecting
+mod Left
+mod Joints
+mod Indexes
+mod Fronts
+mod Knowns

@@ -1,0 +1,4 @@
+pub mod Inferences
+pub mod Trims
+pub mod Joins
+pub mod Knowing

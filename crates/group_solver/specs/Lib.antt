@@ -1,0 +1,5 @@
+pub mod Rows
+pub mod Lemmas
+pub mod Marks
+pub mod Values
+pub mod Copies

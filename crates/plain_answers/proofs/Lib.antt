@@ -1,0 +1,10 @@
+pub mod Lists
+pub mod OrderLemmas
+pub mod Given
+pub mod Least
+pub mod Bits
+pub mod Assigned
+pub mod Asking
+pub mod Staging
+pub mod Settled
+pub mod Certified

@@ -1,0 +1,4 @@
+pub mod Orders
+pub mod Wants
+pub mod Stages
+pub mod Answers
