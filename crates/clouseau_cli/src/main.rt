@@ -12,10 +12,15 @@ use std::{env, io};
 /// The status where the system does not give the words.
 const NO_WORDS: u8 = 8;
 
-/// The words after the program's name.
+/// The words after the program's name. Where one is no UTF-8 they are no command, as no words are.
 fn given_words(rt: &HostRuntime) -> io::Result<Words> {
     let mut items = Vec::new(rt.alloc());
-    for word in env::args(rt)?.skip(1) {
+    let given = match env::args(rt) {
+        Ok(given) => given,
+        Err(error) if error.kind() == io::ErrorKind::InvalidData => return Ok(Words { items }),
+        Err(error) => return Err(error),
+    };
+    for word in given.skip(1) {
         items.push(word)?;
     }
     Ok(Words { items })

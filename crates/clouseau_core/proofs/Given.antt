@@ -1,9 +1,10 @@
--- Giving nothing leaves what was given.
-use Rattle.std.proofs.Common.{ℕ, List, [], Option, Some, None, sym, append-nil}
+-- Giving nothing leaves what was given, and counts that rose in a part of a call rose in the call.
+use Rattle.std.proofs.Common.{ℕ, ◌≤◌, ◌<◌, List, [], Option, Some, None, sym, append-nil, inl, inr, arith}
 use Rattle.std.specs.Io.KnownBytes.{Appends}
 use Rattle.io_edge.specs.Held.{Held, Untold, Absent, Whole}
+use Rattle.io_edge.specs.Faults.{Rose}
 use Rattle.io_edge.specs.Reading.{IsOver}
-use Rattle.clouseau_core.specs.Report.{IsLonger}
+use Rattle.source_program.specs.Loading.{IsLonger}
 
 pub appends_nothing : (given : Option (List ℕ)) → Appends given given []
 appends_nothing None = tt
@@ -14,3 +15,7 @@ pub longer : (h : Held) (left : Option (List ℕ)) (most : ℕ) → IsOver h lef
 longer Untold left most o = tt
 longer Absent left most o = absurd o
 longer (Whole content) left most o = o.0
+
+pub rose_later : (before mid after : ℕ) → before ≤ mid → Rose mid after → Rose before after
+rose_later before mid after le (inl less) = inl (omega (arith, le, less))
+rose_later before mid after le (inr most) = inr most

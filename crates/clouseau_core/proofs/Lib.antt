@@ -1,7 +1,7 @@
-pub mod Rows
-pub mod Forms
-pub mod Places
-pub mod Tokens
-pub mod Causes
 pub mod Given
 pub mod Reports
+pub mod Verdicts
+pub mod Loaded
+pub mod Samples
+pub mod Promised
+pub mod Decided

@@ -2,7 +2,8 @@
 use Rattle.std.proofs.Common.{ℕ, List}
 use Rattle.io_edge.specs.Held.{Held}
 use Rattle.clouseau_core.specs.declared.report.Verdict.{Verdict}
-use Rattle.clouseau_core.specs.Report.{Output, IsAnswer, IsGiven, whole, out_part, err_part, IsReported, given, out_broke, err_broke}
+use Rattle.clouseau_core.specs.Answers.{IsAnswer}
+use Rattle.clouseau_core.specs.Report.{Output, IsGiven, whole, out_part, err_part, IsReported, given, out_broke, err_broke}
 
 pub report_of : {words : List (List ℕ)} {held : List ℕ → Held} {before after : ℕ} {out err : Output} (v : Verdict) (o e : List ℕ) {w : Verdict}
     → IsAnswer words held before after v o e → IsGiven out err v o e w → IsReported words held before after out err w

@@ -1,6 +1,5 @@
-pub mod StraightLine
-pub mod Line
-pub mod Words
-pub mod Failures
-pub mod Sources
+pub mod Texts
+pub mod Judged
+pub mod Answers
 pub mod Report
+pub mod Headline

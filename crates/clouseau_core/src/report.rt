@@ -1,45 +1,58 @@
-use c_types::LimitKind;
+use conflict_proof::{BadLine, Derivation, Names};
 use own_cert::Certificate;
+use source_program::Refusal;
+use std::marker::Model;
 
-/// Why a source is refused. A place is a byte offset from 0.
-#[derive(Clone, Copy, Debug, PartialEq, Eq)]
-pub enum Refusal {
-    /// The file has more than 4,194,304 bytes.
-    TooLong,
-    /// No token begins at this place.
-    Lex(u32),
-    /// The tokens spell no tree: the place of the first that cannot be taken, or the end of the last.
-    Parse(u32),
-    /// A rule of types is broken: the place of the node to which the first broken rule belongs, and
-    /// the rule's number.
-    BadType { at: u32, rule: u32 },
-    /// There is no body of `int main` without parameters.
-    NoMain,
-    /// There are more of a kind than may be: how many there are.
-    Limit { kind: LimitKind, count: u64 },
-    /// The source is none that is judged yet.
-    NotBuilt,
+/// Constraints that cannot be met together, and the derivation that shows it.
+#[derive(Drop)]
+pub struct Conflict {
+    /// The names of the constraints on which the derivation stands, ascending, without those that are always in force.
+    pub used: Names,
+    pub derivation: Derivation,
+}
+
+/// Conflicts, which contracts see as a list.
+#[derive(Drop)]
+pub struct Conflicts {
+    pub items: Vec<Conflict>,
+}
+
+impl Model for Conflicts {
+    ghost use Rattle.std.specs.Prelude.{List};
+    ghost use Rattle.clouseau_core.specs.declared.report.Conflict.{Conflict};
+
+    ghost Value = { List Conflict };
+
+    ghost view = { λ c. c.items.items };
 }
 
 /// What a call found.
-#[derive(Debug, Drop)]
+#[derive(Drop)]
 pub enum Verdict {
-    /// The rules of ownership hold with the bits of this certificate.
+    /// The constraints of the source can be met, as the certificate shows.
     Accepted(Certificate),
-    /// No bits meet the rules.
-    Conflict,
+    /// They cannot. There is one conflict.
+    Conflict(Conflicts),
+    /// The budget does not suffice to tell, as the derivation shows.
+    Undecided(Derivation),
+    /// The source is none that is judged.
     Refused(Refusal),
+    /// The text shows a verdict on the source.
+    Valid,
+    /// It shows none: its first faulty line.
+    Invalid(BadLine),
     /// The words are no command.
     Usage,
-    /// The file could not be read.
+    /// A file could not be read.
     ReadFault,
     /// The text of the verdict could not be written whole.
     WriteFault,
+    /// Memory was wanting.
     NoMemory,
 }
 
 /// The verdict, and the status with which the program ends.
-#[derive(Debug, Drop)]
+#[derive(Drop)]
 pub struct Report {
     pub status: u8,
     pub verdict: Verdict,

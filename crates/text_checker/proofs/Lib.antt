@@ -1,0 +1,4 @@
+pub mod Filled
+pub mod LineBounds
+pub mod Headers
+pub mod Faults
