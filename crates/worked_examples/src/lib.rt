@@ -1,13 +1,11 @@
-//! Worked examples: whole runs of the program over files in memory, as tables.
+//! Worked examples of what stands below the top call, from tokens to the unknowns of a program, as tables.
 //!
 //! This crate has only tests. What they expect is worked out by hand from the rules and the texts that
-//! docs/ describes, and never copied from what the program prints.
+//! docs/ describes, and never copied from what the program prints. Whole runs are in `verdict_examples`.
 #![tactic(auto)]
 
 #[cfg(test)]
 mod facts;
-#[cfg(test)]
-mod first_run;
 #[cfg(test)]
 mod graphs;
 #[cfg(test)]

@@ -1,5 +1,5 @@
 // Every prefix of the list source.
-use crate::harness::{parsed, run};
+use crate::harness::{parsed, refused_with};
 use c_parser::ParseError;
 use example_sources::LIST;
 use std::alloc::Global;
@@ -120,9 +120,8 @@ fn prefixes_are_refused_at_their_end(rt: HostRuntime) -> Result<(), Fail> {
         assert_eq!(rt; given.err(), *refusal);
         // All but the whole.
         if prefix.len() < prefixes.source.len() {
-            let given = run(rt.alloc(), &["check", "a.c"], prefix.as_slice())?;
-            assert_eq!(rt; given.status, 2);
-            assert!(rt; given.err.as_slice().ends_with(cause(*refusal)));
+            let line = refused_with(rt.alloc(), prefix.as_slice())?;
+            assert!(rt; line.as_slice().ends_with(cause(*refusal)));
         }
     }
     Ok(())

@@ -1,9 +1,9 @@
 // Sources that are refused, with the place and the cause.
-use crate::harness::run;
+use crate::harness::refused_with;
 use std::alloc::{AllocError, Global};
 use std::test::Fail;
 
-/// A source and the line on `err`.
+/// A source and the line that says why it is refused, empty where it has a program.
 struct Refused {
     source: &'static [u8],
     line: &'static [u8],
@@ -200,25 +200,22 @@ const REFUSALS: [Refused; 46] = [
     },
     Refused {
         source: b"int f(void); int main(void) { return f(); }",
-        line: b"not built: a.c\n",
+        line: b"",
     },
 ];
 
 #[test]
 fn refusals_name_their_place(rt: HostRuntime) -> Result<(), Fail> {
     for refused in &REFUSALS {
-        let given = run(rt.alloc(), &["check", "a.c"], refused.source)?;
-        assert_eq!(rt; given.status, 2);
-        assert_eq!(rt; given.out.len(), 0);
-        assert_eq!(rt; given.err.as_slice(), refused.line);
+        let line = refused_with(rt.alloc(), refused.source)?;
+        assert_eq!(rt; line.as_slice(), refused.line);
     }
     let mut every = Vec::new(rt.alloc());
     for byte in 0..=255u8 {
         every.push(byte)?;
     }
-    let given = run(rt.alloc(), &["check", "a.c"], every.as_slice())?;
-    assert_eq!(rt; given.status, 2);
-    assert_eq!(rt; given.err.as_slice(), b"1:1: no token\n".as_slice());
+    let line = refused_with(rt.alloc(), every.as_slice())?;
+    assert_eq!(rt; line.as_slice(), b"1:1: no token\n".as_slice());
     Ok(())
 }
 
@@ -260,13 +257,12 @@ fn source_with(
     Ok(source)
 }
 
-/// A source that has so many of a kind between its first and its last bytes, the status, and `err`.
+/// A source that has so many of a kind between its first and its last bytes, and the line.
 struct Limit {
     first: &'static str,
     kind: Counted,
     count: u32,
     last: &'static str,
-    status: u8,
     line: &'static str,
 }
 
@@ -285,15 +281,13 @@ const LIMITS: [Limit; 13] = [
         kind: Counted::Structs,
         count: 1_023,
         last: NAMING,
-        status: 2,
-        line: "not built: a.c\n",
+        line: "",
     },
     Limit {
         first: "",
         kind: Counted::Structs,
         count: 1_024,
         last: NAMING,
-        status: 2,
         line: "limit structs 1025\n",
     },
     Limit {
@@ -301,7 +295,6 @@ const LIMITS: [Limit; 13] = [
         kind: Counted::Members,
         count: 64,
         last: AFTER_MEMBERS,
-        status: 0,
         line: "",
     },
     Limit {
@@ -309,7 +302,6 @@ const LIMITS: [Limit; 13] = [
         kind: Counted::Members,
         count: 65,
         last: AFTER_MEMBERS,
-        status: 2,
         line: "limit fields 65\n",
     },
     Limit {
@@ -317,15 +309,13 @@ const LIMITS: [Limit; 13] = [
         kind: Counted::Procs,
         count: 4_095,
         last: MAIN,
-        status: 2,
-        line: "not built: a.c\n",
+        line: "",
     },
     Limit {
         first: "",
         kind: Counted::Procs,
         count: 4_096,
         last: MAIN,
-        status: 2,
         line: "limit procs 4097\n",
     },
     Limit {
@@ -333,15 +323,13 @@ const LIMITS: [Limit; 13] = [
         kind: Counted::Params,
         count: 8,
         last: AFTER_PARAMS,
-        status: 2,
-        line: "not built: a.c\n",
+        line: "",
     },
     Limit {
         first: "int f(int n",
         kind: Counted::Params,
         count: 9,
         last: AFTER_PARAMS,
-        status: 2,
         line: "limit params 9\n",
     },
     // A broken rule and a missing `main` come before a limit.
@@ -350,7 +338,6 @@ const LIMITS: [Limit; 13] = [
         kind: Counted::Members,
         count: 65,
         last: "}; int main(void) { return x; }",
-        status: 2,
         line: "1:614: type rule 6\n",
     },
     Limit {
@@ -358,7 +345,6 @@ const LIMITS: [Limit; 13] = [
         kind: Counted::Members,
         count: 65,
         last: "};",
-        status: 2,
         line: "1:25: type rule 6\n",
     },
     Limit {
@@ -366,7 +352,6 @@ const LIMITS: [Limit; 13] = [
         kind: Counted::Members,
         count: 65,
         last: "};",
-        status: 2,
         line: "no int main(void)\n",
     },
     // The body's block is the first of 200 that may stand in one another.
@@ -375,15 +360,13 @@ const LIMITS: [Limit; 13] = [
         kind: Counted::Blocks,
         count: 199,
         last: "}",
-        status: 2,
-        line: "not built: a.c\n",
+        line: "",
     },
     Limit {
         first: "int main(void) {",
         kind: Counted::Blocks,
         count: 200,
         last: "}",
-        status: 2,
         line: "1:216: not in the grammar\n",
     },
 ];
@@ -392,9 +375,8 @@ const LIMITS: [Limit; 13] = [
 fn limits_are_told(rt: HostRuntime) -> Result<(), Fail> {
     for limit in &LIMITS {
         let source = source_with(rt.alloc(), limit.first, limit.kind, limit.count, limit.last)?;
-        let given = run(rt.alloc(), &["check", "a.c"], source.as_slice())?;
-        assert_eq!(rt; given.status, limit.status);
-        assert_eq!(rt; given.err.as_slice(), limit.line.as_bytes());
+        let line = refused_with(rt.alloc(), source.as_slice())?;
+        assert_eq!(rt; line.as_slice(), limit.line.as_bytes());
     }
     Ok(())
 }
