@@ -1,4 +1,5 @@
 pub mod Places
+pub mod BitRows
 pub mod Marks
 pub mod Forcing
 pub mod Carrying

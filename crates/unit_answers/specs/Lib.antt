@@ -3,6 +3,7 @@ pub mod Tables
 pub mod Reasons
 pub mod Contradictions
 pub mod Layouts
+pub mod BitRows
 pub mod Trails
 pub mod Propagation
 pub mod Settled

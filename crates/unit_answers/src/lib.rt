@@ -12,6 +12,7 @@
 //! `transfer_rules` for clauses, on `owner_vars` for numbers, and on `verdict_meaning` for what sets mean.
 #![tactic(auto)]
 
+mod bit_row;
 mod carry;
 mod clash;
 mod closing;
