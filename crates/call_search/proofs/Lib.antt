@@ -8,6 +8,7 @@ pub mod Finding
 pub mod Stated
 pub mod Held
 pub mod Settling
+pub mod Descent
 pub mod Made
 pub mod Certifying
 pub mod Verdicts

@@ -19,7 +19,7 @@ use Rattle.call_search.proofs.Grow.{extends-trans}
 use Rattle.call_search.proofs.Asking.{fewer-words, empty_table}
 
 -- the lines that were carried to a group are true, where the last line is of another one or is true
-still_true : (s : System) (U : ConstraintName → Bool) (old new : Ledger) (paid : IsPaid s U old new) (g : ℕ) (a : ℕ → Bool) → InstLinesAreTrue old.lines g a → (paid.last.group ≡ g → clause_true a paid.last.lits ≡ true) → InstLinesAreTrue new.lines g a
+pub still_true : (s : System) (U : ConstraintName → Bool) (old new : Ledger) (paid : IsPaid s U old new) (g : ℕ) (a : ℕ → Bool) → InstLinesAreTrue old.lines g a → (paid.last.group ≡ g → clause_true a paid.last.lits ≡ true) → InstLinesAreTrue new.lines g a
 still_true s U old new paid g a h last zero x at group by = cc
 still_true s U old new paid g a h last (suc n) x at group by =
     ⊎_elim
@@ -41,17 +41,17 @@ still_true s U old new paid g a h last (suc n) x at group by =
 pub asker_after : (s : System) (U : ConstraintName → Bool) (old new : Ledger) (phi top : List Bool) (paid : IsPaid s U old new) → (paid.last.group ≡ root s → ⊥) → IsAsker s U old.lines phi (root s) top → IsAsker s U new.lines phi (root s) top
 asker_after s U old new phi top paid other a = record { size = a.size; local = a.local; phi_is = a.phi_is; carried = still_true s U old new paid (root s) (bit_at top) a.carried (λ e. absurd (other e)) }
 
-pub kept_after : (s : System) (U : ConstraintName → Bool) (old new : Ledger) (phi : List Bool) (t k k2 : List (List Entry)) (line : Line) (paid : IsPaid s U old new) → AreLeft s U old.lines phi t k → line ≡ paid.last → AreKeptBy line k t k2 → AreKept s U new.lines phi k2
-kept_after s U old new phi t k k2 line paid left le by = record {
-  size = by.size ∙ left.kept.size;
+pub by_line : (s : System) (U : ConstraintName → Bool) (old new : Ledger) (phi : List Bool) (t k k2 : List (List Entry)) (line : Line) (paid : IsPaid s U old new) → AreKept s U old.lines phi t → AreKept s U old.lines phi k → line ≡ paid.last → AreKeptBy line k t k2 → AreKept s U new.lines phi k2
+by_line s U old new phi t k k2 line paid other kept le by = record {
+  size = by.size ∙ kept.size;
   kept = λ g n e at. (whole g n e at).0;
   group = λ g n e at. (whole g n e at).1;
 }
   where
     before : (g : ℕ) (e : Entry) → IsFrom k g e ⊎ IsFrom t g e → IsKept s U old.lines phi e × (e.group ≡ g)
     before g e h = ⊎_elim
-        (λ (i : IsFrom k g e). (left.kept.kept g i.0 e i.1, left.kept.group g i.0 e i.1))
-        (λ (i : IsFrom t g e). (left.table.kept g i.0 e i.1, left.table.group g i.0 e i.1)) h
+        (λ (i : IsFrom k g e). (kept.kept g i.0 e i.1, kept.group g i.0 e i.1))
+        (λ (i : IsFrom t g e). (other.kept g i.0 e i.1, other.group g i.0 e i.1)) h
 
     whole : (g n : ℕ) (e : Entry) → slice_get (in_group k2 g) n ≡ Some e → IsKept s U new.lines phi e × (e.group ≡ g)
     whole g n e at =
@@ -60,6 +60,10 @@ kept_after s U old new phi t k k2 line paid left le by = record {
         let same : paid.last.group ≡ e.group → clause_true (bit_at e.bits) paid.last.lits ≡ true =
         λ h. ap (λ (x : Line). clause_true (bit_at e.bits) x.lits) (sym le) ∙ r.1 (ap (λ (x : Line). x.group) le ∙ h ∙ b.1) in
         (record { there = b.0.there; size = b.0.size; local = b.0.local; phi_is = b.0.phi_is; carried = still_true s U old new paid e.group (bit_at e.bits) b.0.carried same }, b.1)
+
+pub kept_after : (s : System) (U : ConstraintName → Bool) (old new : Ledger) (phi : List Bool) (t k k2 : List (List Entry)) (line : Line) (paid : IsPaid s U old new) → AreLeft s U old.lines phi t k → line ≡ paid.last → AreKeptBy line k t k2 → AreKept s U new.lines phi k2
+kept_after s U old new phi t k k2 line paid left le by =
+    by_line s U old new phi t k k2 line paid (record { size = left.table.size; kept = left.table.kept; group = left.table.group }) left.kept le by
 
 pub turned : (s : System) (U : ConstraintName → Bool) (first old new : Ledger) (phi : List Bool) (k2 : List (List Entry)) → Extends s U first old → IsPaid s U old new → AreKept s U new.lines phi k2 → IsTurned s U phi first new k2
 turned s U first old new phi k2 e paid kept = record {

@@ -83,6 +83,11 @@ abbrev pub CarriedIs : System → (ConstraintName → Bool) → Ledger → Ledge
 CarriedIs s U old new None = IsPaid s U old new
 CarriedIs s U old new (Some line) = (new ≡ old) × IsOver s U new line
 
+-- the last line, or the one that would be next, is of this group
+abbrev pub IsCarriedTo : ℕ → Ledger → Option Line → Type 0
+IsCarriedTo g new None = (before : List Line) (last : Line) → new.lines ≡ before ++ last ∷ [] → last.group ≡ g
+IsCarriedTo g new (Some line) = line.group ≡ g
+
 -- one site, or all sites from one up to another
 abbrev pub AskedIs : System → (ConstraintName → Bool) → List Bool → ℕ → List Bool → Ledger → Ledger → List (List Entry) → List (List Entry) → ℕ → ℕ → Asked → Type 0
 AskedIs s U phi g bits old new t u from upto asked.Kept = IsProvided s U phi g bits old new t u from upto

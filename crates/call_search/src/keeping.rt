@@ -80,15 +80,22 @@ fn gather(kept: &mut Vec<Entries>, table: &mut Vec<Entries>) -> Result<(), Memor
     Ok(())
 }
 
+/// Drops the instances of a line's group that make it false.
+pub fn refute(kept: &mut Vec<Entries>, line: &Line)
+    ensures { AreKeptBy line.now kept.old.items kept.old.items kept.new.items }
+{
+    let group = line.group as usize;
+    if group < kept.len() {
+        keep_true(&mut kept[group].items, line.lits.lits());
+    }
+}
+
 /// Moves the instances of a table to those that are kept, and drops those of a line's group that make it false.
 pub fn keep(kept: &mut Vec<Entries>, table: &mut Vec<Entries>, line: &Line) -> Result<(), Memory>
     requires { length table.old.items ≡ length kept.old.items }
     ensures { OnOk result (AreKeptBy line.now kept.old.items table.old.items kept.new.items) }
 {
     gather(kept, table)?;
-    let group = line.group as usize;
-    if group < kept.len() {
-        keep_true(&mut kept[group].items, line.lits.lits());
-    }
+    refute(kept, line);
     Ok(())
 }

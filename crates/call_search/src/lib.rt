@@ -15,6 +15,7 @@
 #![tactic(auto)]
 
 mod certify;
+mod descending;
 mod entries;
 mod fill;
 mod given;

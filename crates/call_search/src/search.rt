@@ -9,12 +9,13 @@ ghost use Rattle.call_search.specs.Ledgers.{IsLedger};
 ghost use Rattle.call_search.specs.Entries.{in_group, AreKept, AreEmpty};
 ghost use Rattle.call_search.specs.Answers.{FoundIs, IsAsker, SettledIs};
 
+use crate::descending::descend;
 use crate::entries::Entries;
 use crate::fill::{Asked, fill};
 use crate::given::copied;
 use crate::groups::{Groups, Outcome};
 use crate::keeping::keep;
-use crate::ledger::Ledger;
+use crate::ledger::{Ledger, last_line};
 use c_tree::Memory;
 use conflict_proof::Line;
 use own_cert::Bits;
@@ -72,15 +73,6 @@ fn renew(
     emptied(alloc, kept, groups)
 }
 
-/// The last line.
-fn last_line(ledger: &Ledger) -> &Line
-    requires { 0 < length ledger.now.lines }
-    ensures { (before : List Line) (last : Line) → ledger.now.lines ≡ before ++ last ∷ [] → result.now ≡ last }
-{
-    let lines = ledger.lines.items.as_slice();
-    &lines[lines.len() - 1]
-}
-
 /// Searches for what the root asks for by its bits, and begins again after each line that refutes other instances
 /// alone. Instances that no line refutes are kept.
 fn settle<G: Groups>(
@@ -99,6 +91,11 @@ fn settle<G: Groups>(
 {
     let root = groups.root();
     'again: loop {
+        match descend(alloc, groups, ledger, phi, top, kept)? {
+            Asked::Kept => {}
+            Asked::Carried => return Ok(Asked::Carried),
+            Asked::Spent(line) => return Ok(Asked::Spent(line)),
+        }
         emptied(alloc, table, root)?;
         match fill(alloc, groups, ledger, phi, top, kept, table)? {
             Asked::Kept => return Ok(Asked::Kept),

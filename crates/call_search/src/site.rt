@@ -9,7 +9,7 @@ ghost use Rattle.zo_core.specs.Renames.{KeepsApart};
 ghost use Rattle.verdict_meaning.specs.Derivations.{IsRightLine};
 ghost use Rattle.call_search.specs.Sites.{image_at, IsCarriedClause, IsLine, IsLitsOf};
 ghost use Rattle.call_search.specs.Ledgers.{IsLedger, IsDenied, IsNew};
-ghost use Rattle.call_search.specs.Answers.{CarriedIs, IsAsker, given_for};
+ghost use Rattle.call_search.specs.Answers.{CarriedIs, IsAsker, IsCarriedTo, given_for};
 
 use crate::groups::Groups;
 use crate::ledger::Ledger;
@@ -73,7 +73,8 @@ pub fn add<G: Groups>(_groups: &G, ledger: &mut Ledger, line: Line) -> Result<Op
     requires ledger { IsLedger (G.system _groups.now) (G.counting _groups.now) ledger.old }
     requires right { IsRightLine (G.system _groups.now) (G.counting _groups.now) ledger.old.lines (length ledger.old.lines + 1) line }
     requires new { IsNew ledger.old.lines line.group line.lits }
-    ensures { IfOk result (CarriedIs (G.system _groups.now) (G.counting _groups.now) ledger.old ledger.new) }
+    ensures answer { IfOk result (CarriedIs (G.system _groups.now) (G.counting _groups.now) ledger.old ledger.new) }
+    ensures group { IfOk result (IsCarriedTo line.group ledger.new) }
 {
     let cost = line.lits.lits().len() as u64 + 1;
     if ledger.words < cost {
@@ -100,7 +101,8 @@ pub fn carry<G: Groups>(
     requires site { site < length (callees (G.system groups.now) group) }
     requires asker { IsAsker (G.system groups.now) (G.counting groups.now) ledger.old.lines (phi_by (G.system groups.now) (bit_at bits.now)) group bits.now }
     requires denied { IsDenied ledger.old.lines (callee (G.system groups.now) group site).group (given_for (G.system groups.now) (phi_by (G.system groups.now) (bit_at bits.now)) (callee (G.system groups.now) group site) (sigma_by (G.system groups.now) group (bit_at bits.now) site)) n }
-    ensures { IfOk result (CarriedIs (G.system groups.now) (G.counting groups.now) ledger.old ledger.new) }
+    ensures answer { IfOk result (CarriedIs (G.system groups.now) (G.counting groups.now) ledger.old ledger.new) }
+    ensures group { IfOk result (IsCarriedTo group ledger.new) }
 {
     local_lines_are_true();
     let lits = carried_clause(alloc, groups, line_lits(ledger, n), group, site)?;
