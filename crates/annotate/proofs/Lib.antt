@@ -2,6 +2,10 @@ pub mod SpanRows
 pub mod FieldRows
 pub mod PositionRows
 pub mod LocalRows
+pub mod PassRows
+pub mod DigitRows
+pub mod IfaceRows
+pub mod SortRows
 pub mod OrderRows
 pub mod SeatRows
 pub mod TextRows

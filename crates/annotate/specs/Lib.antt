@@ -1,5 +1,6 @@
 pub mod Names
 pub mod Spans
+pub mod Passes
 pub mod Positions
 pub mod Fields
 pub mod Conflict

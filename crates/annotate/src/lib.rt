@@ -23,6 +23,7 @@ mod locals;
 mod names;
 mod order;
 mod paint;
+mod passes;
 mod positions;
 mod procs;
 mod rings;

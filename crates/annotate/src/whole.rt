@@ -70,7 +70,8 @@ fn lines(
 /// says it line by line. It means something for good certificates; bits that are lacking count as 0. The one refusal is want
 /// of memory.
 ///
-/// It takes time in proportion to the program, the certificate and the text, but that instances are sorted.
+/// It takes time in proportion to the program, the certificate and the text, where instances count once for each bit of the
+/// greatest group and of the greatest entry, and those of a procedure are found by binary search.
 pub fn annotation(alloc: Global, program: &Program, c: &Certificate) -> Result<Vec<u8>, Memory>
     ensures { IfOk result (λ text. IsAnnotation program.now c.now text.items) }
 {

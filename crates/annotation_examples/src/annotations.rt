@@ -52,12 +52,16 @@ const RINGS: &str =
 const LOOKED_AT: &str =
     "void look(int *p, int n, char *q) { return; }\nint main(void) { return 0; }";
 
+/// Procedures that call nothing, each a group of its own.
+const ALONE: &str =
+    "void first(int *p) { return; }\nvoid second(int *p) { return; }\nvoid third(int *p) { return; }\nint main(void) { return 0; }";
+
 /// Two that call one another, with two instances that have one interface.
 const PAIR: &str =
     "void g(int n);\nvoid f(int n) {\n  char *p;\n  p = malloc(4);\n  g(n);\n  free(p);\n}\nvoid g(int n) {\n  char *q;\n  q = malloc(4);\n  f(n);\n  free(q);\n}\nint main(void) {\n  f(1);\n  g(1);\n  return 0;\n}";
 
 /// The first ten certificates are good.
-const EXAMPLES: [Example; 20] = [
+const EXAMPLES: [Example; 22] = [
     Example {
         source: FREED,
         certificate: "clouseau certificate 1\nphi\ninstance 0 0\niface\nsites\nplace 0 0 0\nplace 0 1 0\nplace 0 2 0\nplace 0 3 1\nplace 0 4 0\nplace 0 5 0\nplace 0 6 0\nend 1\n",
@@ -150,6 +154,18 @@ const EXAMPLES: [Example; 20] = [
         source: LOOKED_AT,
         certificate: "clouseau certificate 2\nphi\ninstance 0 0\niface 10\nsites\ninstance 0 0\niface 11\nsites\ninstance 0 0\niface 00\nsites\ninstance 0 0\niface 01\nsites\nend 4\n",
         text: "accepted\nproc look(p borrows, n int, q borrows) -> void\nproc look(p borrows, n int, q owns) -> void\nproc look(p owns, n int, q borrows) -> void\nproc look(p owns, n int, q owns) -> void\n",
+    },
+    // An interface that ends comes before one that goes on.
+    Example {
+        source: LOOKED_AT,
+        certificate: "clouseau certificate 2\nphi\ninstance 0 0\niface 11\nsites\ninstance 0 0\niface 1\nsites\ninstance 0 0\niface\nsites\ninstance 0 0\niface 01\nsites\nend 4\n",
+        text: "accepted\nproc look(p borrows, n int, q borrows) -> void\nproc look(p borrows, n int, q owns) -> void\nproc look(p owns, n int, q borrows) -> void\nproc look(p owns, n int, q owns) -> void\n",
+    },
+    // Groups in order, whatever the order of the certificate.
+    Example {
+        source: ALONE,
+        certificate: "clouseau certificate 2\nphi\ninstance 3 3\niface\nsites\ninstance 2 2\niface 1\nsites\ninstance 1 1\niface 0\nsites\ninstance 2 2\niface 0\nsites\ninstance 0 0\niface 1\nsites\ninstance 1 1\niface 1\nsites\nend 6\n",
+        text: "accepted\nproc first(p owns) -> void\nproc second(p borrows) -> void\nproc second(p owns) -> void\nproc third(p borrows) -> void\nproc third(p owns) -> void\nproc main() -> int\n",
     },
     // The order is that of the interfaces of the whole group.
     Example {
