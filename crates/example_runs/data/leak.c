@@ -1,0 +1,5 @@
+int main(void) {
+  int *p;
+  p = malloc(sizeof(int));
+  return 0;
+}

@@ -1,0 +1,1 @@
+void drop(char *text) { free(text); }

@@ -1,0 +1,4 @@
+int main(void) {
+  int mask = 0x10;
+  return mask;
+}

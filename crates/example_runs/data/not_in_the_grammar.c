@@ -1,0 +1,2 @@
+typedef struct node *list;
+int main(void) { return 0; }
