@@ -1,5 +1,5 @@
--- Calls, lists of calls, and the walk that finds what a procedure reaches.
-use Rattle.std.proofs.Common.{◌≡◌, ℕ, zero, suc, ◌+◌, ◌<◌, ◌≤◌, ◌⊎◌, inl, inr, ◌↔◌, Bool, true, false, MatchBool, List, [], ◌∷◌, ◌++◌, length, get_or, take, Some, refl, sym, ap, subst, ◌∙◌, arith}
+-- Calls, and lists of calls.
+use Rattle.std.proofs.Common.{◌≡◌, ℕ, ◌+◌, ◌<◌, ◌≤◌, ◌⊎◌, inl, inr, ◌↔◌, List, [], ◌∷◌, ◌++◌, length, get_or, take, Some, refl, sym, ap, subst, ◌∙◌, arith}
 use Rattle.std.proofs.lemmas.Bool.{cases_lt}
 use Rattle.std.proofs.lemmas.List.{take_more, get_or_past, get_or_append_left, get_or_push}
 use Rattle.std.proofs.lemmas.List.Elements.{Contains-push, Contains-push_cases, Contains-append_left, Contains-get_or, All-from_get_or}
@@ -8,10 +8,8 @@ use Rattle.flow_graph.specs.declared.action.Edge.{Edge}
 use Rattle.flow_graph.specs.FlowGraph.{FlowGraph, flow_of, edges_from}
 use Rattle.flow_graph.specs.Fits.{IsFlowGraph}
 use Rattle.flow_graph.specs.Calls.{callee_of}
-use Rattle.recursion_groups.specs.Calls.{Calls, Leads, Reaches}
-use Rattle.recursion_groups.specs.Found.{Numbers, has, Gains}
-use Rattle.recursion_groups.specs.Rows.{IsCalled, AreCalls, IsRow}
-use Rattle.recursion_groups.proofs.FoundLemmas.{contains_none, gains_kept, gains_longer, gains_then, gains_as, not_has, contains_from_has}
+use Rattle.recursion_groups.specs.Calls.{Calls, Leads, Reaches, IsCalled, Gains}
+use Rattle.recursion_groups.proofs.FoundLemmas.{contains_none}
 
 -- One more of a list
 
@@ -46,31 +44,31 @@ module _ (n : ℕ) (es : List Edge) (i : ℕ) (e : Edge) (lt : i < length es) (i
     | inr k ↦ inr (ap (λ (d : Edge). callee_of d.action) k ∙ h.call, h.body)
   ]
 
--- one more number, and one more edge
+-- one more edge
 
-pub items_on : (s t u : Numbers) (xs : List ℕ) (i x : ℕ) → i < length xs → x ≡ get_or xs i x → Gains s t (Contains (take i xs)) → Gains t u (λ q. q ≡ x) → Gains s u (Contains (take (i + 1) xs))
-items_on s t u xs i x lt e g h =
-    gains_then s t u (Contains (take i xs)) (λ q. q ≡ x) (Contains (take (i + 1) xs)) g h
-    (take_old xs i x lt e)
-    (λ q k. subst (λ r. Contains (take (i + 1) xs) r) (sym k) (take_new xs i x lt e))
-    (λ q k. elim (take_cases xs i x lt e q k) [ inl l ↦ inl l | inr l ↦ inr (sym l) ])
+module _ (n : ℕ) (s t : List ℕ) (es : List Edge) (i : ℕ) (e : Edge) (lt : i < length es) (is : e ≡ get_or es i e) (g : Gains s t (IsCalled n (take i es))) where
+  pub edge_skipped : ((q : ℕ) → callee_of e.action ≡ Some q → q < n → ⊥) → Gains s t (IsCalled n (take (i + 1) es))
+  edge_skipped none = record {
+    kept = g.kept;
+    only = λ q k. elim (g.only q k) [ inl l ↦ inl l | inr l ↦ inr (called_old n es i e lt is q l) ];
+    all = λ q k. elim (called_cases n es i e lt is q k) [ inl l ↦ g.all q l | inr l ↦ absurd (none q l.0 l.1) ];
+  }
 
-module _ (s t : Numbers) (es : List Edge) (i : ℕ) (e : Edge) (lt : i < length es) (is : e ≡ get_or es i e) (g : Gains s t (IsCalled s.bound (take i es))) where
-  pub edge_skipped : ((q : ℕ) → callee_of e.action ≡ Some q → q < s.bound → ⊥) → Gains s t (IsCalled s.bound (take (i + 1) es))
-  edge_skipped none =
-      gains_as s t (IsCalled s.bound (take i es)) (IsCalled s.bound (take (i + 1) es)) g
-      (called_old s.bound es i e lt is)
-      (λ q k. elim (called_cases s.bound es i e lt is q k) [ inl l ↦ l | inr l ↦ absurd (none q l.0 l.1) ])
-
-  pub edge_on : (u : Numbers) (x : ℕ) → callee_of e.action ≡ Some x → x < s.bound → Gains t u (λ q. q ≡ x) → Gains s u (IsCalled s.bound (take (i + 1) es))
-  edge_on u x c b h =
-      gains_then s t u (IsCalled s.bound (take i es)) (λ q. q ≡ x) (IsCalled s.bound (take (i + 1) es)) g h
-      (called_old s.bound es i e lt is)
-      (λ q k. subst (λ r. IsCalled s.bound (take (i + 1) es) r) (sym k) (called_new s.bound es i e lt is x c b))
-      (λ q k. elim (called_cases s.bound es i e lt is q k) [ inl l ↦ inl l | inr l ↦ inr (one q l.0) ])
+  pub edge_on : (x : ℕ) → callee_of e.action ≡ Some x → x < n → Gains s (t ++ x ∷ []) (IsCalled n (take (i + 1) es))
+  edge_on x c b = record {
+    kept = λ q k. Contains-append_left t (x ∷ []) q (g.kept q k);
+    only = λ q k. elim (Contains-push_cases t x q k) [
+      | inl old ↦ elim (g.only q old) [ inl l ↦ inl l | inr l ↦ inr (called_old n es i e lt is q l) ]
+      | inr same ↦ inr (subst (λ r. IsCalled n (take (i + 1) es) r) same (called_new n es i e lt is x c b))
+    ];
+    all = λ q k. elim (called_cases n es i e lt is q k) [
+      | inl l ↦ Contains-append_left t (x ∷ []) q (g.all q l)
+      | inr l ↦ subst (λ r. Contains (t ++ x ∷ []) r) (one q l.0) (Contains-push t x)
+    ];
+  }
     where
-      one : (q : ℕ) → callee_of e.action ≡ Some q → q ≡ x
-      one q f = let same : Some q ≡ Some x = sym f ∙ c in cc
+      one : (q : ℕ) → callee_of e.action ≡ Some q → x ≡ q
+      one q f = let same : Some x ≡ Some q = sym c ∙ f in cc
 
 -- an edge of a place below `to` calls q
 pub record CalledBefore (g : FlowGraph) (p to q : ℕ) : Type 0 where
@@ -133,100 +131,25 @@ pub along : (g : FlowGraph) (P : ℕ → Type 0) → ((q r : ℕ) → P q → Ca
 along g P step p [] q h is = subst P h is
 along g P step p (r ∷ rs) q h is = along g P step r rs q h.1 (step p r is h.0)
 
--- The walk
+pub no_gains : (s : List ℕ) (P : ℕ → Type 0) → ((q : ℕ) → P q → ⊥) → Gains s s P
+no_gains s P none = record { kept = λ q k. k; only = λ q k. inl k; all = λ q k. absurd (none q k) }
 
--- what was found is reached, and of the first `done` all that they call is found
-pub record IsWalk (g : FlowGraph) (start : ℕ) (found : Numbers) (done : ℕ) : Type 0 where
-  pub bound : found.bound ≡ g.bodies
-  pub begun : Contains found.items start
-  pub reached : (q : ℕ) → Contains found.items q → Reaches g start q
-  pub closed : (k q : ℕ) → k < done → Calls g (get_or found.items k 0) q → Contains found.items q
-  pub within : done ≤ length found.items
+pub none_before : (g : FlowGraph) (p q : ℕ) → CalledBefore g p 0 q → ⊥
+none_before g p q h = omega (arith, h.below)
 
-pub walk_begins : (g : FlowGraph) (start : ℕ) (s t : Numbers) → s.bound ≡ g.bodies → s.items ≡ [] → Gains s t (λ q. q ≡ start) → IsWalk g start t 0
-walk_begins g start s t b e h = record {
-  bound = h.bound ∙ b;
-  begun = h.all start refl;
-  reached = λ q c. elim (h.only q c) [
-    | inl k ↦ absurd (contains_none q (subst (λ us. Contains us q) e k))
-    | inr k ↦ subst (λ r. Reaches g start r) (sym k) (reaches_itself g start)
+pub places_on : (g : FlowGraph) (p to : ℕ) (s t u : List ℕ) → Gains s t (CalledBefore g p to) → Gains t u (IsCalled g.bodies (edges_from g p to)) → Gains s u (CalledBefore g p (to + 1))
+places_on g p to s t u h k = record {
+  kept = λ q l. k.kept q (h.kept q l);
+  only = λ q l. elim (k.only q l) [
+    | inl m ↦ elim (h.only q m) [ inl old ↦ inl old | inr n ↦ inr (before_old g p to q n) ]
+    | inr m ↦ inr (before_new g p to q m)
   ];
-  closed = λ k q lt c. absurd (omega (arith, lt));
-  within = omega arith;
+  all = λ q l. elim (before_cases g p to q l) [ inl m ↦ k.kept q (h.all q m) | inr m ↦ k.all q m ];
 }
 
-module _ (g : FlowGraph) (start : ℕ) (s t : Numbers) (done : ℕ) (us : List ℕ) (p : ℕ)
-    (w : IsWalk g start s done) (lt : done < length s.items) (is : p ≡ get_or s.items done 0)
-    (calls : (q : ℕ) → Contains us q ↔ Calls g p q) (h : Gains s t (Contains us)) where
-  here : Contains s.items p
-  here = subst (λ k. Contains s.items k) (sym is) (Contains-get_or s.items done 0 lt)
-
-  reached_more : (q : ℕ) → Contains t.items q → Reaches g start q
-  reached_more q c = elim (h.only q c) [
-    | inl k ↦ w.reached q k
-    | inr k ↦ reaches_more g start p q (w.reached p here) ((calls q).0 k)
-  ]
-
-  same_place : (k : ℕ) → k < length s.items → get_or t.items k 0 ≡ get_or s.items k 0
-  same_place k k_lt = ap (λ (xs : List ℕ). get_or xs k 0) h.front ∙ get_or_append_left s.items h.more 0 k k_lt
-
-  closed_more : (k q : ℕ) → k < done + 1 → Calls g (get_or t.items k 0) q → Contains t.items q
-  closed_more k q k_lt c =
-      let old : Calls g (get_or s.items k 0) q = subst (λ r. Calls g r q) (same_place k (omega arith)) c in
-      elim (cases_lt k done) [
-        | inl below ↦ gains_kept s t (Contains us) h q (w.closed k q below old)
-        | inr above ↦
-            let at : k ≡ done = omega arith in
-            h.all q ((calls q).1 (subst (λ r. Calls g r q) (ap (λ j. get_or s.items j 0) at ∙ sym is) old))
-      ]
-
-  pub walk_on : IsWalk g start t (done + 1)
-  walk_on = record {
-    bound = h.bound ∙ w.bound;
-    begun = gains_kept s t (Contains us) h start w.begun;
-    reached = reached_more;
-    closed = closed_more;
-    within = omega (arith, gains_longer s t (Contains us) h);
-  }
-
-module _ (g : FlowGraph) (start : ℕ) (s : Numbers) (done : ℕ) (w : IsWalk g start s done) (end : length s.items ≤ done) where
-  found_step : (q r : ℕ) → Contains s.items q → Calls g q r → Contains s.items r
-  found_step q r h c = w.closed h.0 r (omega (arith, h.1, w.within)) (subst (λ k. Calls g k r) (sym (at_zero h)) c)
-    where
-      at_zero : (h : Contains s.items q) → get_or s.items h.0 0 ≡ q
-      at_zero h = default_zero s.items h.0 q h.1 ∙ h.2
-        where
-          default_zero : (us : List ℕ) (k d : ℕ) → k < length us → get_or us k 0 ≡ get_or us k d
-          default_zero [] k d lt = absurd (omega arith)
-          default_zero (u ∷ us) zero d lt = refl
-          default_zero (u ∷ us) (suc k) d lt = default_zero us k d (omega arith)
-
-  pub walk_ends : (q : ℕ) → Reaches g start q → Contains s.items q
-  walk_ends q h = along g (Contains s.items) found_step start h.0 q h.1 w.begun
-
-  answer : (q : ℕ) (b : Bool) → b ≡ has s.items q → MatchBool b (Reaches g start q) (Reaches g start q → ⊥)
-  answer q true e = w.reached q (contains_from_has s.items q (sym e))
-  answer q false e = λ h. not_has s.items q (sym e) (walk_ends q h)
-
-  pub row_from_walk : (row : List Bool) → length row ≡ s.bound → ((q : ℕ) → q < s.bound → get_or row q false ≡ has s.items q) → IsRow g start row
-  row_from_walk row len each = record {
-    count = len ∙ w.bound;
-    each = λ q lt. answer q (get_or row q false) (each q (subst (λ n. q < n) (sym w.bound) lt));
-  }
-
-pub places_on : (g : FlowGraph) (p to : ℕ) (s t u : Numbers) → s.bound ≡ g.bodies → Gains s t (CalledBefore g p to) → Gains t u (IsCalled t.bound (edges_from g p to)) → Gains s u (CalledBefore g p (to + 1))
-places_on g p to s t u b h k =
-    gains_then s t u (CalledBefore g p to) (IsCalled t.bound (edges_from g p to)) (CalledBefore g p (to + 1)) h k
-    (before_old g p to)
-    (λ q l. before_new g p to q (subst (λ n. IsCalled n (edges_from g p to) q) bound l))
-    (λ q l. elim (before_cases g p to q l) [ inl m ↦ inl m | inr m ↦ inr (subst (λ n. IsCalled n (edges_from g p to) q) (sym bound) m) ])
-  where
-    bound : t.bound ≡ g.bodies
-    bound = h.bound ∙ b
-
-pub calls_found : (g : FlowGraph) (p : ℕ) (s t : Numbers) → IsFlowGraph g → p < g.bodies → s.items ≡ [] → Gains s t (CalledBefore g p (length (flow_of g p).places)) → (q : ℕ) → Contains t.items q ↔ Calls g p q
-calls_found g p s t is body e h q = (
-  (λ k. elim (h.only q k) [ inl l ↦ absurd (contains_none q (subst (λ us. Contains us q) e l)) | inr l ↦ calls_from_before g is p body (length (flow_of g p).places) q l ]),
+pub calls_found : (g : FlowGraph) (p : ℕ) (t : List ℕ) → IsFlowGraph g → p < g.bodies → Gains [] t (CalledBefore g p (length (flow_of g p).places)) → (q : ℕ) → Contains t q ↔ Calls g p q
+calls_found g p t is body h q = (
+  (λ k. elim (h.only q k) [ inl l ↦ absurd (contains_none q l) | inr l ↦ calls_from_before g is p body (length (flow_of g p).places) q l ]),
   (λ k. h.all q (before_from_calls g is p body q k)),
 )
 
@@ -239,7 +162,3 @@ each_push P xs x d n len old new p lt =
           let at : n ≡ p = omega arith in
           subst (P p) (sym (get_or_push xs x d p (len ∙ at))) (subst (λ k. P k x) at new)
     ]
-
--- what is called has a body
-pub below_bound : (g : FlowGraph) (calls : List (List ℕ)) (p q : ℕ) {n : ℕ} → AreCalls g calls → p < g.bodies → n ≡ g.bodies → Contains (get_or calls p []) q → q < n
-below_bound g calls p q are body e h = let c : Calls g p q = (are.each p q body).0 h in let b : q < g.bodies = c.callee in omega arith

@@ -1,5 +1,7 @@
 pub mod FoundLemmas
 pub mod CallLemmas
-pub mod OrderLemmas
+pub mod WalkLemmas
+pub mod QueueLemmas
 pub mod Unique
+pub mod GroupLemmas
 pub mod Each

@@ -49,7 +49,7 @@ module _ (g : FlowGraph) (done : List ℕ) where
   first_in : (ps : List ℕ) → 0 < length ps → Contains ps (get_or ps 0 0)
   first_in ps some = Contains-get_or ps 0 0 some
 
-  least_first : (ps : List ℕ) → IsStrictlyIncreasing ps → (p : ℕ) → Contains ps p → get_or ps 0 0 ≤ p
+  pub least_first : (ps : List ℕ) → IsStrictlyIncreasing ps → (p : ℕ) → Contains ps p → get_or ps 0 0 ≤ p
   least_first [] h p c = absurd (contains_none p c)
   least_first (x ∷ ps) h p c = first_of p x ps h c
 

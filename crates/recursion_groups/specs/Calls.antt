@@ -1,5 +1,5 @@
 -- Who calls whom.
-use Rattle.std.specs.Prelude.{◌≡◌, ℕ, ◌<◌, List, [], ◌∷◌, Some}
+use Rattle.std.specs.Prelude.{◌≡◌, ℕ, ◌<◌, ◌⊎◌, ◌↔◌, List, [], ◌∷◌, Some, length, slice_index_or}
 use Rattle.std.specs.List.{Contains}
 use Rattle.flow_graph.specs.declared.action.Edge.{Edge}
 use Rattle.flow_graph.specs.FlowGraph.{FlowGraph, edges_from}
@@ -26,3 +26,21 @@ Reaches g p q = (through : List ℕ) × Leads g p through q
 -- each reaches the other
 abbrev pub AreMutual : FlowGraph → ℕ → ℕ → Type 0
 AreMutual g p q = Reaches g p q × Reaches g q p
+
+-- one of these edges calls q, which has a body
+pub record IsCalled (bodies : ℕ) (es : List Edge) (q : ℕ) : Type 0 where
+  pub edge : Edge
+  pub there : Contains es edge
+  pub call : callee_of edge.action ≡ Some q
+  pub body : q < bodies
+
+-- the lists have what each procedure with a body calls
+pub record AreCalls (g : FlowGraph) (calls : List (List ℕ)) : Type 0 where
+  pub count : length calls ≡ g.bodies
+  pub each : (p q : ℕ) → p < g.bodies → Contains (slice_index_or calls p []) q ↔ Calls g p q
+
+-- those that were there and those of which P holds are there now, and no others
+pub record Gains (old new : List ℕ) (P : ℕ → Type 0) : Type 0 where
+  pub kept : (q : ℕ) → Contains old q → Contains new q
+  pub only : (q : ℕ) → Contains new q → Contains old q ⊎ P q
+  pub all : (q : ℕ) → P q → Contains new q

@@ -1,4 +1,6 @@
 pub mod Calls
 pub mod Grouping
 pub mod Found
-pub mod Rows
+pub mod Walks
+pub mod Orders
+pub mod Members

@@ -8,11 +8,12 @@
 #![tactic(auto)]
 
 mod build;
-mod found;
+mod calls;
 mod laws;
 mod list;
-mod order;
-mod reach;
+mod members;
+mod queue;
+mod walk;
 
 pub use build::groups;
 pub use laws::grouping_laws;
