@@ -10,7 +10,7 @@ use Rattle.verdict_meaning.specs.Solutions.{phi_by, sigma_by}
 use Rattle.verdict_meaning.specs.Certificates.{bit_at}
 use Rattle.verdict_meaning.specs.Derivations.{cost_of, InstLinesAreTrue}
 use Rattle.verdict_meaning.proofs.Bits.{length-by, length-numbers, get_at}
-use Rattle.call_search.specs.declared.ledger.Ledger.{Ledger}
+use Rattle.call_search.specs.Indexes.{Ledger}
 use Rattle.call_search.specs.declared.entries.Entry.{Entry}
 use Rattle.call_search.specs.Shapes.{IsShaped}
 use Rattle.std.specs.List.{Contains, All}

@@ -17,15 +17,16 @@ use Rattle.verdict_meaning.specs.declared.callee.Callee.{Callee}
 use Rattle.verdict_meaning.specs.Systems.{System, root, callee, callees, count, phi_numbers, pi_numbers, sigma_numbers}
 use Rattle.verdict_meaning.specs.Solutions.{phi_by, sigma_by}
 use Rattle.verdict_meaning.specs.Certificates.{bit_at}
-use Rattle.verdict_meaning.specs.Derivations.{line_at, line_cost, Carried, paired, at_site, carried_number, with_number, carried_before, carried, IsRightLine}
+use Rattle.verdict_meaning.specs.Derivations.{line_at, line_cost, Carried, paired, at_site, carried_number, with_number, carried_before, carried, IsRightLine, IsValidIn}
 use Rattle.verdict_meaning.proofs.Bits.{length-by, length-numbers}
 use Rattle.verdict_meaning.specs.Laws.{LocalLinesAreTrue}
-use Rattle.call_search.specs.declared.ledger.Ledger.{Ledger}
+use Rattle.call_search.specs.Indexes.{Ledger}
 use Rattle.call_search.specs.Shapes.{IsShaped, before_own, before_site, stated}
-use Rattle.call_search.specs.Sites.{site_image, image_at, IsCarriedClause}
+use Rattle.call_search.specs.Sites.{IsOfSite, IsSaidAt, site_image, image_at, IsCarriedClause}
 use Rattle.call_search.specs.Ledgers.{IsLedger, IsNew, IsOver, IsDenied}
 use Rattle.call_search.specs.Answers.{IsAsker, IsPaid, given_for}
-use Rattle.call_search.proofs.Faces.{own_within, site_within}
+use Rattle.call_search.proofs.Indexing.{few_known}
+use Rattle.call_search.proofs.Faces.{own_within, site_within, site_next}
 use Rattle.call_search.proofs.Grow.{ledger-push, get-within}
 
 -- a literal among those stated
@@ -92,7 +93,7 @@ false_literal : (z v : Bool) → not z ≡ v → cond z v (not v) ≡ false
 false_literal true v e = sym e
 false_literal false v e = ap not (sym e)
 
-Contained-P : (P : Literal → Type 0) (c : List Literal) (l : Literal) → All P c → Contains c l → P l
+pub Contained-P : (P : Literal → Type 0) (c : List Literal) (l : Literal) → All P c → Contains c l → P l
 Contained-P P c l all h = subst P h.2 (all h.0 l h.1)
 
 abbrev Each : (Literal → Type 0) → List Literal → Type 0
@@ -307,9 +308,18 @@ module _ (s : System) (shaped : IsShaped s) (a : ℕ → Bool) (g site : ℕ) (l
   pub site-small : g ≤ root s → sb + parts < 2 ^ 31
   site-small le = let w = site_within s g site lt in let m = shaped.small g le in omega arith
 
-  module _ (U : ConstraintName → Bool) (ledger : Ledger) (ok : IsLedger s U ledger) (le : g ≤ root s) (bits : List Bool) (is : a ≡ bit_at bits)
-      (asker : IsAsker s U ledger.lines (phi_by s a) g bits) (n : ℕ) (denied : IsDenied ledger.lines c.group given n) (from new : List Literal) (from_is : from ≡ denied.line.lits)
-      (made : IsCarriedClause img from new) where
+  -- an unknown of the interface goes to one of the site
+  img-here : (v : ℕ) → IsFace s.fields own parts v → IsOfSite s g site (img v)
+  img-here v f = elim f.one [
+    | inl p ↦ let x = image_low own parts sb v (omega arith) in inl (omega arith)
+    | inr p ↦ let x = image_high own parts sb v p.0 p.1 in let y = site_next s g site lt in let i = p.0 in let j = p.1 in inr (omega arith, omega arith)
+  ]
+
+  each_here : (ls : List Literal) → Each OneFace ls → Each (λ (l : Literal). IsOfSite s g site l.var) (renamed img ls)
+  each_here [] h = tt
+  each_here (l ∷ ls) h = (img-here l.var (h.0).face, each_here ls h.1)
+
+  module _ (U : ConstraintName → Bool) (lines : List Line) (le : g ≤ root s) (n : ℕ) (denied : IsDenied lines c.group given n) (from new : List Literal) (from_is : from ≡ denied.line.lits) (made : IsCarriedClause img from new) where
     abbrev next : Line
     next = record { group = g; how = Inst n site; lits = new }
 
@@ -319,15 +329,15 @@ module _ (s : System) (shaped : IsShaped s) (a : ℕ → Bool) (g site : ℕ) (l
     made-is : gathered (renamed img denied.line.lits) ≡ Some new
     made-is = ap (λ ls. gathered (renamed img ls)) (sym from_is) ∙ made.made
 
-    earlier : n < suc (length ledger.lines)
+    earlier : n < suc (length lines)
     earlier = within n denied.there
       where
-        within : (m : ℕ) → line_at ledger.lines m ≡ Some denied.line → m < suc (length ledger.lines)
+        within : (m : ℕ) → line_at lines m ≡ Some denied.line → m < suc (length lines)
         within zero e = cc
-        within (suc m) e = let h = get-within ledger.lines denied.line m e in omega arith
+        within (suc m) e = let h = get-within lines denied.line m e in omega arith
 
-    pub next-right : (m : ℕ) → m ≡ length ledger.lines + 1 → IsRightLine s U ledger.lines m next
-    next-right m em = record {
+    next-right : IsRightLine s U lines (length lines + 1) next
+    next-right = record {
       group = le;
       clause = (asc-gathered (renamed img denied.line.lits) new (each_some denied.line.lits faces) made-is, all_of (λ (l : Literal). l.var ≤ count s g) new (each-gathered (λ (l : Literal). l.var ≤ count s g) (renamed img denied.line.lits) new (each_within denied.line.lits faces) made-is));
       right = record {
@@ -342,16 +352,24 @@ module _ (s : System) (shaped : IsShaped s) (a : ℕ → Bool) (g site : ℕ) (l
       };
     }
 
-    pub next-new : LocalLinesAreTrue → IsNew ledger.lines g new
-    next-new local_lines_are_true m x at eg ec =
-        clash (sym (sym (ap (clause_true a) ec) ∙ local) ∙ (made.truth a ∙ ap (clause_true (λ v. a (img v))) from_is ∙ all_false denied.line.lits faces))
-      where
-        local : clause_true a x.lits ≡ true
-        local = subst (λ (f : ℕ → Bool). clause_true f x.lits ≡ true) (sym is)
-            (local_lines_are_true s U ledger.lines g (bit_at bits) ok.valid asker.local asker.carried m x at eg)
+    next-false : clause_true a new ≡ false
+    next-false = made.truth a ∙ ap (clause_true (λ v. a (img v))) from_is ∙ all_false denied.line.lits faces
 
-        clash : true ≡ false → ⊥
-        clash e = cc
+    next-here : All (λ (l : Literal). IsOfSite s g site l.var) new
+    next-here = all_of (λ (l : Literal). IsOfSite s g site l.var) new (each-gathered (λ (l : Literal). IsOfSite s g site l.var) (renamed img denied.line.lits) new (each_here denied.line.lits faces) made-is)
+
+    pub next_said : (bits : List Bool) → a ≡ bit_at bits → IsSaidAt s U lines g site bits next
+    next_said bits is = record { group = refl; right = next-right; denied = ap (λ (f : ℕ → Bool). clause_true f new) (sym is) ∙ next-false; here = next-here }
+
+-- what bits make false is no line that they make true
+pub said_new : LocalLinesAreTrue → (s : System) (U : ConstraintName → Bool) (lines : List Line) (phi : List Bool) (g site : ℕ) (bits : List Bool) (line : Line) → IsValidIn s U lines → IsAsker s U lines phi g bits → IsSaidAt s U lines g site bits line → IsNew lines line.group line.lits
+said_new law s U lines phi g site bits line valid asker said m x at eg ec = clash (sym local ∙ ap (clause_true (bit_at bits)) ec ∙ said.denied)
+  where
+    local : clause_true (bit_at bits) x.lits ≡ true
+    local = law s U lines g (bit_at bits) valid asker.local asker.carried m x at (eg ∙ said.group)
+
+    clash : true ≡ false → ⊥
+    clash e = cc
 
 pub added : (s : System) (U : ConstraintName → Bool) (old d new : Ledger) (y : Line) (cost : ℕ) → d ≡ old → IsLedger s U old → IsRightLine s U old.lines (length old.lines + 1) y → IsNew old.lines y.group y.lits
     → new.lines ≡ d.lines ++ y ∷ [] → cost ≡ line_cost y → cost ≤ d.words → new.words ≡ d.words - cost → IsPaid s U old new
@@ -369,6 +387,13 @@ added s U old d new y cost de l right fresh lines ce le words =
   where
     nothing : (n : ℕ) (x : Line) → slice_get [] n ≡ Some x → ⊥
     nothing n x at = cc
+
+pub pushed : (s : System) (U : ConstraintName → Bool) (old new : Ledger) (y : Line) → IsLedger s U old → IsRightLine s U old.lines (length old.lines + 1) y → IsNew old.lines y.group y.lits
+    → new.lines ≡ old.lines ++ y ∷ [] → new.words + line_cost y ≡ old.words → IsPaid s U old new
+pushed s U old new y l right fresh lines words = added s U old old new y (line_cost y) refl l right fresh lines refl (omega arith) (omega arith)
+
+pub few_lines : (s : System) (U : ConstraintName → Bool) (l : Ledger) → IsLedger s U l → length l.lines < 2 ^ 32
+few_lines s U l ok = few_known l.lines l.words ok.small
 
 pub not_added : (s : System) (U : ConstraintName → Bool) (old d : Ledger) (y : Line) (cost : ℕ) → d ≡ old → IsRightLine s U old.lines (length old.lines + 1) y → IsNew old.lines y.group y.lits → cost ≡ line_cost y → d.words < cost → IsOver s U old y
 not_added s U old d y cost de right fresh ce lt = record {

@@ -1,31 +1,29 @@
 -- A descent: its frames, what it keeps, and its steps.
-use Rattle.std.proofs.Common.{◌≡◌, ℕ, zero, suc, ◌+◌, ◌-◌, ◌*◌, ◌<◌, ◌≤◌, ◌^◌, ◌⊎◌, inl, inr, ⊎_elim, Bool, true, false, ◌==◌, List, [], ◌∷◌, ◌++◌, Option, Some, None, refl, sym, ap, ◌∙◌, subst, arith, length, slice_get, length-append, append_assoc}
+use Rattle.std.proofs.Common.{◌≡◌, ℕ, zero, suc, ◌+◌, ◌-◌, ◌*◌, ◌<◌, ◌≤◌, ◌^◌, ◌⊎◌, inl, inr, ⊎_elim, Bool, true, false, List, [], ◌∷◌, ◌++◌, Some, refl, sym, ap, ◌∙◌, subst, arith, length, slice_get, length-append, append_assoc}
 use Rattle.std.proofs.Math.Nat.{mul-le-mul_left}
 use Rattle.std.proofs.lemmas.Bool.{cases_eq}
 use Rattle.zo_core.specs.Literals.{Literal}
+use Rattle.zo_core.specs.Truth.{clause_true}
 use Rattle.conflict_proof.specs.declared.names.ConstraintName.{ConstraintName}
 use Rattle.conflict_proof.specs.declared.derivation.Line.{Line}
 use Rattle.verdict_meaning.specs.declared.callee.Callee.{Callee}
 use Rattle.verdict_meaning.specs.Systems.{System, root, callee, callees, callee_parts}
-use Rattle.verdict_meaning.specs.Solutions.{phi_by, sigma_by}
+use Rattle.verdict_meaning.specs.Solutions.{sigma_by}
 use Rattle.verdict_meaning.specs.Certificates.{bit_at}
-use Rattle.call_search.specs.declared.ledger.Ledger.{Ledger}
+use Rattle.verdict_meaning.specs.Derivations.{IsValidIn, InstLinesAreTrue}
+use Rattle.verdict_meaning.specs.Laws.{LocalLinesAreTrue}
 use Rattle.call_search.specs.declared.entries.Entry.{Entry}
 use Rattle.call_search.specs.declared.descending.Frame.{Frame}
-use Rattle.call_search.specs.declared.groups.Outcome.{Outcome}
-use Rattle.call_search.specs.declared.groups.Outcome.TheVariants as outcome
-use Rattle.call_search.specs.declared.fill.Asked.{Asked}
-use Rattle.call_search.specs.declared.fill.Asked.TheVariants as asked
-use Rattle.call_search.specs.Shapes.{IsShaped, IsThere}
-use Rattle.call_search.specs.Ledgers.{IsLedger, Extends, Solves, IsOver, IsDenied, IsSolved}
-use Rattle.call_search.specs.Entries.{in_group, IsKept, IsPut, IsSized, AreKept, AreKeptBy, AreSized}
-use Rattle.call_search.specs.Answers.{IsAsker, IsPaid, IsTurned, IsCarriedTo, CarriedIs, OutcomeIs, given_for}
-use Rattle.call_search.specs.Frames.{frame_of, past, IsAsking, AreNested, AreFrames, IsHandedOn, IsFinished, room, steps_from, steps_after, steps_left, IsGivenUp, WalkedIs, IsDescended, DescendedIs}
-use Rattle.call_search.proofs.Lists.{some_one, push_cases, push_same, get_append, get_within}
-use Rattle.call_search.proofs.Grow.{extends-trans}
-use Rattle.call_search.proofs.Asking.{phi_length, sigma_length, kept-asker, asker-more, fewer-words, none_paid}
-use Rattle.call_search.proofs.Table.{made-kept}
-use Rattle.call_search.proofs.Settling.{still_true, by_line, turned}
+use Rattle.call_search.specs.Shapes.{IsShaped, before_site}
+use Rattle.call_search.specs.Sites.{IsOfSite, IsSaidAt, HasOther}
+use Rattle.call_search.specs.Ledgers.{IsNew}
+use Rattle.call_search.specs.Entries.{in_group, IsKept, IsPut, IsSized, AreKept, AreSized}
+use Rattle.call_search.specs.Answers.{IsAsker}
+use Rattle.call_search.specs.Frames.{frame_of, frame_at, past, IsAsking, AreNested, SpeaksBefore, IsMarked, WasSaid, IsToldTo, IsWaiting, AreFrames, IsHandedOn, IsFinished, room, steps_from, steps_after, steps_left}
+use Rattle.call_search.proofs.Lists.{some_one, push_cases, push_same, get_append, get_within, append_cases, append_none}
+use Rattle.call_search.proofs.Faces.{site_next}
+use Rattle.call_search.proofs.Carry.{Contained-P}
+use Rattle.call_search.proofs.Asking.{phi_length, sigma_length}
 
 -- the element before the last one, where that is pushed
 before_last : (fs : List Frame) (h f : Frame) (n : ℕ) → n < length fs → slice_get (fs ++ h ∷ []) n ≡ Some f → slice_get fs n ≡ Some f
@@ -81,36 +79,109 @@ module _ (s : System) (shaped : IsShaped s) where
   pub above : (fs : List Frame) (h : Frame) → AreNested s (fs ++ h ∷ []) → (n : ℕ) (f : Frame) → slice_get fs n ≡ Some f → h.group < f.group
   above fs h a = all_above fs h a.asking
 
+-- a site more
+
+pub before_more : (s : System) (g site : ℕ) → site < length (callees s g) → before_site s g site ≤ before_site s g (site + 1)
+before_more s g site lt = let e = site_next s g site lt in omega arith
+
+said_later : (s : System) (f : Frame) (site : ℕ) (r : Bool) (marks : List Bool) (c : List Literal) → before_site s f.group f.site ≤ before_site s f.group site → ((v : ℕ) → bit_at f.marks v ≡ true → bit_at marks v ≡ true) → WasSaid s f c → WasSaid s (frame_at f site r marks) c
+said_later s f site r marks c le more h = ⊎_elim
+    (λ (i : SpeaksBefore s f.group f.site c). inl (record { literal = i.literal; there = i.there; above = i.above; within = let w = i.within in omega arith }))
+    (λ (i : IsMarked s f.marks c). inr (record { first = i.first; rest = i.rest; is = i.is; marked = more i.first.var i.marked; fields = i.fields })) h
+
+clash : true ≡ false → ⊥
+clash e = cc
+
+module _ (s : System) (U : ConstraintName → Bool) (phi : List Bool) where
+  -- a frame that waits
+
+  pub waits_now : (lines : List Line) (f : Frame) → IsValidIn s U lines → IsAsker s U lines phi f.group f.bits → IsWaiting s U lines phi f
+  waits_now lines f valid asker = record { before = lines; more = []; is = sym (append_none lines); valid = valid; asker = asker; told = λ n x at e. cc }
+
+  pub waits_more : (lines new ls : List Line) (f : Frame) → new ≡ lines ++ ls → ((n : ℕ) (x : Line) → slice_get ls n ≡ Some x → x.group ≡ f.group → IsToldTo s f x) → IsWaiting s U lines phi f → IsWaiting s U new phi f
+  waits_more lines new ls f is told w = record {
+    before = w.before;
+    more = w.more ++ ls;
+    is = is ∙ ap (λ (xs : List Line). xs ++ ls) w.is ∙ append_assoc w.before w.more ls;
+    valid = w.valid;
+    asker = w.asker;
+    told = λ n x at e. ⊎_elim (λ (i : slice_get w.more n ≡ Some x). w.told n x i e) (λ (i : (m : ℕ) × (slice_get ls m ≡ Some x)). told i.0 x i.1 e) (append_cases w.more ls x n at);
+  }
+
+  pub waits_at : (lines : List Line) (f : Frame) (site : ℕ) (r : Bool) (marks : List Bool) → (f.refuted ≡ true → r ≡ true) → before_site s f.group f.site ≤ before_site s f.group site → ((v : ℕ) → bit_at f.marks v ≡ true → bit_at marks v ≡ true) → IsWaiting s U lines phi f → IsWaiting s U lines phi (frame_at f site r marks)
+  waits_at lines f site r marks keep le more w = record {
+    before = w.before;
+    more = w.more;
+    is = w.is;
+    valid = w.valid;
+    asker = w.asker;
+    told = λ n x at e. let h : IsToldTo s f x = w.told n x at e in record { refuted = keep h.refuted; said = said_later s f site r marks x.lits le more h.said };
+  }
+
+  -- it still meets the lines, where none was carried to it
+  pub waits_asker : (lines : List Line) (f : Frame) → f.refuted ≡ false → IsWaiting s U lines phi f → IsAsker s U lines phi f.group f.bits
+  waits_asker lines f untold w = record { size = w.asker.size; local = w.asker.local; phi_is = w.asker.phi_is; carried = still }
+    where
+      still : InstLinesAreTrue lines f.group (bit_at f.bits)
+      still zero x at group by = cc
+      still (suc n) x at group by = ⊎_elim
+          (λ (i : slice_get w.before n ≡ Some x). w.asker.carried (suc n) x i group by)
+          (λ (i : (m : ℕ) × (slice_get w.more m ≡ Some x)). absurd (clash (sym (w.told i.0 x i.1 group).refuted ∙ untold)))
+          (append_cases w.before w.more x n (ap (λ (ls : List Line). slice_get ls n) (sym w.is) ∙ at))
+
+  -- what its bits make false is a new line, where it differs from those that were carried to it
+  pub waits_new : LocalLinesAreTrue → (lines : List Line) (f : Frame) (line : Line) → IsWaiting s U lines phi f → IsSaidAt s U lines f.group f.site f.bits line
+      → HasOther s.fields line.lits ⊎ ((first : Literal) (rest : List Literal) → line.lits ≡ first ∷ rest → bit_at f.marks first.var ≡ false) → IsNew lines line.group line.lits
+  waits_new law lines f line w said other zero x at eg ec = cc
+  waits_new law lines f line w said other (suc n) x at eg ec = ⊎_elim
+      (λ (i : slice_get w.before n ≡ Some x). clash (sym (law s U w.before f.group (bit_at f.bits) w.valid w.asker.local w.asker.carried (suc n) x i (eg ∙ said.group)) ∙ ap (clause_true (bit_at f.bits)) ec ∙ said.denied))
+      (λ (i : (m : ℕ) × (slice_get w.more m ≡ Some x)). told (subst (λ (c : List Literal). WasSaid s f c) ec (w.told i.0 x i.1 (eg ∙ said.group)).said))
+      (append_cases w.before w.more x n (ap (λ (ls : List Line). slice_get ls n) (sym w.is) ∙ at))
+    where
+      told : WasSaid s f line.lits → ⊥
+      told h = ⊎_elim
+          (λ (i : SpeaksBefore s f.group f.site line.lits). ⊎_elim
+          (λ (j : i.literal.var ≤ s.fields). let z : ⊥ = (let k = i.above in omega arith) in z)
+          (λ (j : (before_site s f.group f.site < i.literal.var) × (i.literal.var ≤ before_site s f.group (f.site + 1))). let z : ⊥ = (let k = i.within in let m = j.0 in omega arith) in z)
+          (Contained-P (λ (l : Literal). IsOfSite s f.group f.site l.var) line.lits i.literal said.here i.there))
+          (λ (i : IsMarked s f.marks line.lits). ⊎_elim
+          (λ (j : HasOther s.fields line.lits). let z : ⊥ = (let k : j.literal.var ≤ s.fields = Contained-P (λ (l : Literal). l.var ≤ s.fields) line.lits j.literal i.fields j.there in let m = j.above in omega arith) in z)
+          (λ (j : (first : Literal) (rest : List Literal) → line.lits ≡ first ∷ rest → bit_at f.marks first.var ≡ false). clash (sym i.marked ∙ j i.first i.rest i.is))
+          other) h
+
 module _ (s : System) (U : ConstraintName → Bool) (lines : List Line) (phi : List Bool) where
   pub frames_front : (fs : List Frame) (f : Frame) → AreFrames s U lines phi (fs ++ f ∷ []) → AreFrames s U lines phi fs
-  frames_front fs f a = record { nested = nested_front s fs f a.nested; asker = λ n x at. a.asker n x (get_append fs (f ∷ []) x n at) }
+  frames_front fs f a = record { nested = nested_front s fs f a.nested; waiting = λ n x at. a.waiting n x (get_append fs (f ∷ []) x n at) }
 
-  pub frames_last : (fs : List Frame) (f : Frame) → AreFrames s U lines phi (fs ++ f ∷ []) → IsAsker s U lines phi f.group f.bits
-  frames_last fs f a = a.asker (length fs) f (push_same fs f)
+  pub frames_last : (fs : List Frame) (f : Frame) → AreFrames s U lines phi (fs ++ f ∷ []) → IsWaiting s U lines phi f
+  frames_last fs f a = a.waiting (length fs) f (push_same fs f)
 
-  frames_push : (fs : List Frame) (h : Frame) → AreFrames s U lines phi fs → h.group ≤ root s → AsksFor s fs h → IsAsker s U lines phi h.group h.bits → AreFrames s U lines phi (fs ++ h ∷ [])
-  frames_push fs h a le asks asker = record {
+  frames_push : (fs : List Frame) (h : Frame) → AreFrames s U lines phi fs → h.group ≤ root s → AsksFor s fs h → IsWaiting s U lines phi h → AreFrames s U lines phi (fs ++ h ∷ [])
+  frames_push fs h a le asks waiting = record {
     nested = nested_push s fs h a.nested le asks;
-    asker = λ n f at. ⊎_elim (λ (i : slice_get fs n ≡ Some f). a.asker n f i) (λ (i : (n ≡ length fs) × (h ≡ f)). subst (λ (x : Frame). IsAsker s U lines phi x.group x.bits) i.1 asker) (push_cases fs h f n at);
+    waiting = λ n f at. ⊎_elim (λ (i : slice_get fs n ≡ Some f). a.waiting n f i) (λ (i : (n ≡ length fs) × (h ≡ f)). subst (λ (x : Frame). IsWaiting s U lines phi x) i.1 waiting) (push_cases fs h f n at);
   }
 
   -- the first frame, that of the root
-  pub frames_first : (top : List Bool) → IsAsker s U lines phi (root s) top → AreFrames s U lines phi (frame_of (root s) top ∷ [])
-  frames_first top a = frames_push [] (frame_of (root s) top) none (omega arith) (λ n f e at. cc) a
+  pub frames_first : (top marks : List Bool) → IsValidIn s U lines → IsAsker s U lines phi (root s) top → AreFrames s U lines phi (frame_of (root s) top marks ∷ [])
+  frames_first top marks valid a = frames_push [] (frame_of (root s) top marks) none (omega arith) (λ n f e at. cc) (waits_now s U phi lines (frame_of (root s) top marks) valid a)
     where
       none : AreFrames s U lines phi []
-      none = record { nested = record { group = λ n f at. cc; asking = λ n f h p q. cc }; asker = λ n f at. cc }
+      none = record { nested = record { group = λ n f at. cc; asking = λ n f h p q. cc }; waiting = λ n f at. cc }
+
+  -- the last frame goes on
+  pub frames_at : (fs : List Frame) (f : Frame) (site : ℕ) (r : Bool) (marks : List Bool) → IsWaiting s U lines phi (frame_at f site r marks) → AreFrames s U lines phi (fs ++ f ∷ []) → AreFrames s U lines phi (fs ++ frame_at f site r marks ∷ [])
+  frames_at fs f site r marks w a =
+      frames_push fs (frame_at f site r marks) (frames_front fs f a) (nested_last s fs f a.nested)
+      (λ n g e at. let h : IsAsking s g f = nested_asks s fs f a.nested n g e at in record { within = h.within; group = h.group }) w
 
   -- the last frame's site is gone past
-  pub frames_past : (fs : List Frame) (f : Frame) → AreFrames s U lines phi (fs ++ f ∷ []) → AreFrames s U lines phi (fs ++ past f ∷ [])
-  frames_past fs f a =
-      frames_push fs (past f) (frames_front fs f a) (nested_last s fs f a.nested)
-      (λ n g e at. let h : IsAsking s g f = nested_asks s fs f a.nested n g e at in record { within = h.within; group = h.group })
-      (frames_last fs f a)
+  pub frames_past : (fs : List Frame) (f : Frame) → f.site < length (callees s f.group) → AreFrames s U lines phi (fs ++ f ∷ []) → AreFrames s U lines phi (fs ++ past f ∷ [])
+  frames_past fs f lt a = frames_at fs f (f.site + 1) f.refuted f.marks (waits_at s U phi lines f (f.site + 1) f.refuted f.marks (λ e. e) (before_more s f.group f.site lt) (λ v e. e) (frames_last fs f a)) a
 
   -- a frame is put on the others, for which the last one's site asks
-  pub frames_more : (fs : List Frame) (f h : Frame) → AreFrames s U lines phi (fs ++ f ∷ []) → h.group ≤ root s → IsAsking s f h → IsAsker s U lines phi h.group h.bits → AreFrames s U lines phi ((fs ++ f ∷ []) ++ h ∷ [])
-  frames_more fs f h a le asking asker = frames_push (fs ++ f ∷ []) h a le (λ n g e at. only n g e at) asker
+  pub frames_more : (fs : List Frame) (f h : Frame) → AreFrames s U lines phi (fs ++ f ∷ []) → h.group ≤ root s → IsAsking s f h → IsWaiting s U lines phi h → AreFrames s U lines phi ((fs ++ f ∷ []) ++ h ∷ [])
+  frames_more fs f h a le asking waiting = frames_push (fs ++ f ∷ []) h a le (λ n g e at. only n g e at) waiting
     where
       only : (n : ℕ) (g : Frame) → suc n ≡ length (fs ++ f ∷ []) → slice_get (fs ++ f ∷ []) n ≡ Some g → IsAsking s g h
       only n g e at =
@@ -136,7 +207,7 @@ module _ (s : System) (U : ConstraintName → Bool) (lines : List Line) (phi : L
       ]
 
   -- the last frame is finished
-  module _ (shaped : IsShaped s) (k k2 : List (List Entry)) (fs gs : List Frame) (f : Frame) (frames : AreFrames s U lines phi (fs ++ f ∷ [])) (kept : AreKept s U lines phi k) where
+  module _ (shaped : IsShaped s) (k k2 : List (List Entry)) (fs gs : List Frame) (f : Frame) (frames : AreFrames s U lines phi (fs ++ f ∷ [])) (kept : AreKept s U lines phi k) (told : f.refuted ≡ false) where
     module _ (h : IsHandedOn s f.bits k k2 fs gs) where
       abbrev c : Callee
       c = callee s h.asker.group h.asker.site
@@ -148,13 +219,13 @@ module _ (s : System) (U : ConstraintName → Bool) (lines : List Line) (phi : L
       asking = nested_asks s (h.before ++ h.asker ∷ []) f whole.nested (length h.before) h.asker (let l : length (h.before ++ h.asker ∷ []) ≡ length h.before + 1 = length-append h.before (h.asker ∷ []) in omega arith) (push_same h.before h.asker)
 
       handed_frames : AreFrames s U lines phi gs
-      handed_frames = subst (λ (xs : List Frame). AreFrames s U lines phi xs) (sym h.now) (frames_past h.before h.asker (frames_front (h.before ++ h.asker ∷ []) f whole))
+      handed_frames = subst (λ (xs : List Frame). AreFrames s U lines phi xs) (sym h.now) (frames_past h.before h.asker asking.within (frames_front (h.before ++ h.asker ∷ []) f whole))
 
       abbrev entry : Entry
       entry = record { group = c.group; proc = c.proc; bits = f.bits }
 
       its_asker : IsAsker s U lines phi c.group f.bits
-      its_asker = subst (λ g. IsAsker s U lines phi g f.bits) (sym asking.group) (frames_last fs f frames)
+      its_asker = subst (λ g. IsAsker s U lines phi g f.bits) (sym asking.group) (waits_asker s U phi lines f told (frames_last fs f frames))
 
       its_kept : IsKept s U lines phi entry
       its_kept = record { there = shaped.there h.asker.group h.asker.site asking.within; size = its_asker.size; local = its_asker.local; phi_is = its_asker.phi_is; carried = its_asker.carried }
@@ -183,7 +254,7 @@ site_fits s shaped before fs asker f e a =
     omega arith
 
 pub frame_phi : (s : System) (U : ConstraintName → Bool) (lines : List Line) (phi : List Bool) (fs : List Frame) (f : Frame) → AreFrames s U lines phi (fs ++ f ∷ []) → length phi ≡ s.fields
-frame_phi s U lines phi fs f a = ap length (sym (frames_last s U lines phi fs f a).phi_is) ∙ phi_length s (bit_at f.bits)
+frame_phi s U lines phi fs f a = ap length (sym (frames_last s U lines phi fs f a).asker.phi_is) ∙ phi_length s (bit_at f.bits)
 
 pub face_length : (s : System) (g : ℕ) (bits : List Bool) (site : ℕ) (c : Callee) (face : List Bool) → c ≡ callee s g site → face ≡ sigma_by s g (bit_at bits) site → length face ≡ s.parts c.proc
 face_length s g bits site c face ce fe = ap length fe ∙ sigma_length s g (bit_at bits) site ∙ ap (callee_parts s) (sym ce)
@@ -232,7 +303,7 @@ abbrev steps_before : System → List Frame → ℕ
 steps_before s [] = 0
 steps_before s (f ∷ fs) = steps_after s f + steps_before s fs
 
-steps_with : (s : System) (fs : List Frame) (f : Frame) → steps_left s (fs ++ f ∷ []) ≡ steps_before s fs + steps_from s f
+pub steps_with : (s : System) (fs : List Frame) (f : Frame) → steps_left s (fs ++ f ∷ []) ≡ steps_before s fs + steps_from s f
 steps_with s [] f = omega arith
 steps_with s (g ∷ []) f = omega arith
 steps_with s (g ∷ (h ∷ fs)) f = let r : steps_left s (h ∷ (fs ++ f ∷ [])) ≡ steps_after s h + steps_before s fs + steps_from s f = steps_with s (h ∷ fs) f in omega arith
@@ -282,144 +353,28 @@ more_steps s shaped fs f h fg hg asking first =
     let g : steps_from s h ≡ length (callees s h.group) * room h.group + 1 = ap (λ m. m * room h.group + 1) n in
     omega arith
 
--- going down to an instance that was solved
+-- all steps that are left fit into the room above the first frame's group
 
-module _ (s : System) (U : ConstraintName → Bool) (shaped : IsShaped s) (phi : List Bool) (fs : List Frame) (whole f : Frame) (same : f ≡ whole) (old new : Ledger) (all : AreFrames s U old.lines phi (fs ++ whole ∷ [])) (within : whole.site < length (callees s whole.group)) (c : Callee) (face : List Bool) (given : List Literal) (o : Outcome) (is : OutcomeIs s U c.group given old new o) (ce : c ≡ callee s f.group f.site) (fe : face ≡ sigma_by s f.group (bit_at f.bits) f.site) (ge : given ≡ given_for s phi c face) where
-  frames : AreFrames s U old.lines phi (fs ++ f ∷ [])
-  frames = subst (λ (x : Frame). AreFrames s U old.lines phi (fs ++ x ∷ [])) (sym same) all
+from_fits : (s : System) (f : Frame) → length (callees s f.group) < 2 ^ 32 → steps_from s f < room (suc f.group)
+from_fits s f few =
+    let a : room f.group * (length (callees s f.group) - f.site) ≤ room f.group * (2 ^ 32 - 1) = mul-le-mul_left (room f.group) (omega arith) in
+    let some : 0 < room f.group = room_some f.group in
+    omega arith
 
-  lt : f.site < length (callees s f.group)
-  lt = subst (λ (x : Frame). x.site < length (callees s x.group)) (sym same) within
+steps_below : (s : System) → IsShaped s → (f : Frame) (fs : List Frame) → AreNested s (f ∷ fs) → steps_left s (f ∷ fs) < room (suc f.group)
+steps_below s shaped f [] a = from_fits s f (shaped.few f.group (a.group 0 f refl))
+steps_below s shaped f (h ∷ fs) a =
+    let rest : steps_left s (h ∷ fs) < room (suc h.group) = steps_below s shaped h fs (record { group = λ n. a.group (suc n); asking = λ n. a.asking (suc n) }) in
+    let asking : IsAsking s f h = a.asking 0 f h refl refl in
+    let below : h.group < f.group = let m = shaped.below f.group f.site asking.within in let e = asking.group in omega arith in
+    let more : room (suc h.group) ≤ room f.group = room_more (suc h.group) f.group (omega arith) in
+    let one = steps_one s f asking.within in
+    let fits = from_fits s f (shaped.few f.group (a.group 0 f refl)) in
+    omega arith
 
-  mine : IsAsker s U old.lines phi f.group f.bits
-  mine = frames_last s U old.lines phi fs f frames
-
-  abbrev asks : (h : Frame) → h.group ≡ c.group → IsAsking s f h
-  asks h e = record { within = lt; group = ap (λ (k : Callee). k.group) (sym ce) ∙ sym e }
-
-  low : c.group ≤ root s
-  low = let h = (shaped.there f.group f.site lt).group in let e = ap (λ (k : Callee). k.group) ce in omega arith
-
-  sat : (bits : List Bool) → o ≡ outcome.Sat bits → (new ≡ old) × IsSolved s U old.lines c.group given bits
-  sat bits oe = subst (OutcomeIs s U c.group given old new) oe is
-
-  pub entered_same : (bits : List Bool) → o ≡ outcome.Sat bits → new ≡ old
-  entered_same bits oe = (sat bits oe).0
-
-  solved_asker : (bits : List Bool) → o ≡ outcome.Sat bits → IsAsker s U old.lines phi c.group bits
-  solved_asker bits oe =
-      kept-asker s U old.lines phi c.group (record { group = c.group; proc = c.proc; bits = bits }) refl
-      (made-kept s U phi c face old.lines (subst (λ k. IsThere s k) (sym ce) (shaped.there f.group f.site lt)) (ap length (sym mine.phi_is) ∙ phi_length s (bit_at f.bits))
-      (ap length fe ∙ sigma_length s f.group (bit_at f.bits) f.site ∙ ap (callee_parts s) (sym ce)) bits (subst (λ ls. IsSolved s U old.lines c.group ls bits) ge (sat bits oe).1))
-
-  pub entered_frames : (bits : List Bool) (gs : List Frame) → o ≡ outcome.Sat bits → gs ≡ (fs ++ whole ∷ []) ++ frame_of c.group bits ∷ [] → AreFrames s U old.lines phi gs
-  entered_frames bits gs oe e =
-      subst (λ (xs : List Frame). AreFrames s U old.lines phi xs) (ap (λ (y : Frame). (fs ++ y ∷ []) ++ frame_of c.group bits ∷ []) same ∙ sym e)
-      (frames_more s U old.lines phi fs f (frame_of c.group bits) frames low (asks (frame_of c.group bits) refl) (solved_asker bits oe))
-
-  pub entered_steps : (bits : List Bool) (gs : List Frame) → gs ≡ (fs ++ whole ∷ []) ++ frame_of c.group bits ∷ [] → steps_left s gs < steps_left s (fs ++ whole ∷ [])
-  entered_steps bits gs e =
-      let more : steps_left s ((fs ++ f ∷ []) ++ frame_of c.group bits ∷ []) < steps_left s (fs ++ f ∷ []) = more_steps s shaped fs f (frame_of c.group bits) (nested_last s fs f frames.nested) low (asks (frame_of c.group bits) refl) refl in
-      let a : steps_left s gs ≡ steps_left s ((fs ++ f ∷ []) ++ frame_of c.group bits ∷ []) = ap (steps_left s) (e ∙ ap (λ (y : Frame). (fs ++ y ∷ []) ++ frame_of c.group bits ∷ []) (sym same)) in
-      let b : steps_left s (fs ++ f ∷ []) ≡ steps_left s (fs ++ whole ∷ []) = ap (λ (y : Frame). steps_left s (fs ++ y ∷ [])) same in
-      omega arith
-
-  refused : (n : ℕ) → o ≡ outcome.Conflict n → Solves s U c.group old new × IsDenied new.lines c.group given n
-  refused n oe = subst (OutcomeIs s U c.group given old new) oe is
-
-  pub refused_solves : (n : ℕ) → o ≡ outcome.Conflict n → Solves s U c.group old new
-  refused_solves n oe = (refused n oe).0
-
-  pub refused_asker : (n : ℕ) → o ≡ outcome.Conflict n → IsAsker s U new.lines (phi_by s (bit_at f.bits)) f.group f.bits
-  refused_asker n oe = asker-more s U shaped phi f.group f.bits f.site lt old new (subst (λ (k : Callee). Solves s U k.group old new) ce (refused n oe).0) mine
-
-  pub refused_denied : (n : ℕ) → o ≡ outcome.Conflict n → IsDenied new.lines (callee s f.group f.site).group (given_for s (phi_by s (bit_at f.bits)) (callee s f.group f.site) (sigma_by s f.group (bit_at f.bits) f.site)) n
-  refused_denied n oe =
-      subst (λ (p : List Bool). IsDenied new.lines (callee s f.group f.site).group (given_for s p (callee s f.group f.site) (sigma_by s f.group (bit_at f.bits) f.site)) n) (sym mine.phi_is)
-      (subst (λ (k : Callee). IsDenied new.lines k.group (given_for s phi k (sigma_by s f.group (bit_at f.bits) f.site)) n) ce
-      (subst (λ (xs : List Bool). IsDenied new.lines c.group (given_for s phi c xs) n) fe
-      (subst (λ ls. IsDenied new.lines c.group ls n) ge (refused n oe).1)))
-
-  -- the line that says so was carried to the frame's site
-  pub given_up : (end : Ledger) (r : Option Line) (n : ℕ) → o ≡ outcome.Conflict n → r ≡ None → CarriedIs s U new end r → IsCarriedTo f.group end r → IsGivenUp s U old end fs
-  given_up end r n oe re carried to = record {
-    paid = paid;
-    below = λ m g at. let h : f.group < g.group = above s shaped fs f frames.nested m g at in let e : paid.last.group ≡ f.group = last_group in omega arith;
-  }
-    where
-      paid : IsPaid s U old end
-      paid = none_paid s U c.group old new end r re carried (refused n oe).0
-
-      to_none : (before : List Line) (last : Line) → end.lines ≡ before ++ last ∷ [] → last.group ≡ f.group
-      to_none = subst (IsCarriedTo f.group end) re to
-
-      last_group : paid.last.group ≡ f.group
-      last_group = to_none (old.lines ++ paid.own) paid.last (paid.is ∙ sym (append_assoc old.lines paid.own (paid.last ∷ [])))
-
--- whether a frame is left
-
-pub some_left : (fs : List Frame) (n : ℕ) (b : Bool) → n ≡ length fs → b ≡ (n == 0) → b ≡ false → 0 < length fs
-some_left [] n b ne be e = let z : n ≡ 0 = ne in absurd (clash (sym (be ∙ ap (λ (k : ℕ). k == 0) z) ∙ e))
-  where
-    clash : true ≡ false → ⊥
-    clash e = cc
-some_left (f ∷ fs) n b ne be e = omega arith
-
--- after a frame was given up
-
-module _ (s : System) (U : ConstraintName → Bool) (old new : Ledger) (phi : List Bool) (fs : List Frame) (up : IsGivenUp s U old new fs) where
-  asker_past : (g : ℕ) (bits : List Bool) → up.paid.last.group < g → IsAsker s U old.lines phi g bits → IsAsker s U new.lines phi g bits
-  asker_past g bits lt a = record { size = a.size; local = a.local; phi_is = a.phi_is; carried = still_true s U old new up.paid g (bit_at bits) a.carried (λ e. absurd (let h : up.paid.last.group ≡ g = e in omega arith)) }
-
-  pub frames_past_line : AreFrames s U old.lines phi fs → AreFrames s U new.lines phi fs
-  frames_past_line a = record { nested = a.nested; asker = λ n f at. asker_past f.group f.bits (up.below n f at) (a.asker n f at) }
-
-  -- some frame is left, so that the line is not the root's
-  pub top_past_line : (top : List Bool) → AreFrames s U old.lines phi fs → 0 < length fs → IsAsker s U old.lines phi (root s) top → IsAsker s U new.lines phi (root s) top
-  top_past_line top a some asker = go fs up.below a.nested.group some
-    where
-      go : (gs : List Frame) → ((n : ℕ) (f : Frame) → slice_get gs n ≡ Some f → up.paid.last.group < f.group) → ((n : ℕ) (f : Frame) → slice_get gs n ≡ Some f → f.group ≤ root s) → 0 < length gs → IsAsker s U new.lines phi (root s) top
-      go [] below le some = absurd (omega arith)
-      go (f ∷ gs) below le some = asker_past (root s) top (let p = below 0 f refl in let q = le 0 f refl in omega arith) asker
-
-  pub kept_past_line : (k k2 : List (List Entry)) (line : Line) → AreKept s U old.lines phi k → line ≡ up.paid.last → AreKeptBy line k k k2 → AreKept s U new.lines phi k2
-  kept_past_line k k2 line kept e by = by_line s U old new phi k k k2 line up.paid kept kept e by
-
--- as the walk answers
-
-pub walked_up : (s : System) (U : ConstraintName → Bool) (old new : Ledger) (gs : List Frame) (o : Asked) → o ≡ asked.Carried → WalkedIs s U old new gs o → IsGivenUp s U old new gs
-walked_up s U old new gs o oe is = subst (WalkedIs s U old new gs) oe is
-
-pub walked_same : (s : System) (U : ConstraintName → Bool) (old new : Ledger) (gs : List Frame) (o : Asked) → o ≡ asked.Kept → WalkedIs s U old new gs o → new ≡ old
-walked_same s U old new gs o oe is = subst (WalkedIs s U old new gs) oe is
-
-pub walked_over : (s : System) (U : ConstraintName → Bool) (first old new : Ledger) (gs : List Frame) (o : Asked) (line : Line) → o ≡ asked.Spent line → WalkedIs s U old new gs o → Extends s U first old → Extends s U first new × IsOver s U new line
-walked_over s U first old new gs o line oe is e =
-    let here : Extends s U old new × IsOver s U new line = subst (WalkedIs s U old new gs) oe is in
-    (extends-trans s U first old new e here.0, here.1)
-
-pub descended : (s : System) (U : ConstraintName → Bool) (phi top : List Bool) (first old new : Ledger) (k : List (List Entry)) → new ≡ old → Extends s U first old → AreKept s U old.lines phi k → IsAsker s U old.lines phi (root s) top → IsDescended s U phi top first new k
-descended s U phi top first old new k e ext kept asker = record {
-  extends = subst (λ (l : Ledger). Extends s U first l) (sym e) ext;
-  kept = subst (λ (l : Ledger). AreKept s U l.lines phi k) (sym e) kept;
-  asker = subst (λ (l : Ledger). IsAsker s U l.lines phi (root s) top) (sym e) asker;
-}
-
--- as the descent answers
-
-pub descended_kept : (s : System) (U : ConstraintName → Bool) (phi top : List Bool) (old new : Ledger) (k : List (List Entry)) (o : Asked) → o ≡ asked.Kept → DescendedIs s U phi top old new k o → IsDescended s U phi top old new k
-descended_kept s U phi top old new k o oe is = subst (DescendedIs s U phi top old new k) oe is
-
-pub descended_turned : (s : System) (U : ConstraintName → Bool) (phi top : List Bool) (first old new : Ledger) (k : List (List Entry)) (o : Asked) → o ≡ asked.Carried → DescendedIs s U phi top old new k o → Extends s U first old → IsTurned s U phi first new k
-descended_turned s U phi top first old new k o oe is e =
-    let t : IsTurned s U phi old new k = subst (DescendedIs s U phi top old new k) oe is in
-    record {
-      extends = extends-trans s U first old new e t.extends;
-      fewer = let a = fewer-words s U first old e in let b = t.fewer in omega arith;
-      kept = t.kept;
-    }
-
-pub descended_over : (s : System) (U : ConstraintName → Bool) (phi top : List Bool) (first old new : Ledger) (k : List (List Entry)) (o : Asked) (line : Line) → o ≡ asked.Spent line → DescendedIs s U phi top old new k o → Extends s U first old → Extends s U first new × IsOver s U new line
-descended_over s U phi top first old new k o line oe is e =
-    let here : Extends s U old new × IsOver s U new line = subst (DescendedIs s U phi top old new k) oe is in
-    (extends-trans s U first old new e here.0, here.1)
+pub steps_fit : (s : System) → IsShaped s → (fs : List Frame) → AreNested s fs → steps_left s fs < room (suc (root s))
+steps_fit s shaped [] a = room_some (suc (root s))
+steps_fit s shaped (f ∷ fs) a =
+    let below = steps_below s shaped f fs a in
+    let more : room (suc f.group) ≤ room (suc (root s)) = room_more (suc f.group) (suc (root s)) (let le = a.group 0 f refl in omega arith) in
+    omega arith

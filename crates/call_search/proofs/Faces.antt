@@ -27,6 +27,9 @@ site_within s g site lt =
     let h : sum_by (callee_parts s) (take site (callees s g)) + callee_parts s (callee s g site) ≤ sum_by (callee_parts s) (callees s g) = total_within s (callees s g) site lt in
     omega arith
 
+pub site_next : (s : System) (g site : ℕ) → site < length (callees s g) → before_site s g (site + 1) ≡ before_site s g site + callee_parts s (callee s g site)
+site_next s g site lt = let a = sum_by_more (callee_parts s) (callees s g) site nobody lt in omega arith
+
 -- a part of some bits, as the values of their unknowns
 pub part_values : (bs : List Bool) (p n : ℕ) → p + n ≤ length bs → take n (drop p bs) ≡ map (bit_at bs) (range_with_len (suc p) n)
 part_values bs p n le =

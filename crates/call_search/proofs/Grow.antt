@@ -8,7 +8,7 @@ use Rattle.conflict_proof.specs.declared.derivation.How.TheVariants.{Axiom, Reso
 use Rattle.conflict_proof.specs.declared.derivation.Line.{Line}
 use Rattle.verdict_meaning.specs.Systems.{System}
 use Rattle.verdict_meaning.specs.Derivations.{line_at, line_cost, cost_of, IsRight, IsRightLine, IsValidIn, NoClauseTwice}
-use Rattle.call_search.specs.declared.ledger.Ledger.{Ledger}
+use Rattle.call_search.specs.Indexes.{Ledger}
 use Rattle.call_search.specs.Ledgers.{IsLedger, Extends, IsNew}
 
 pub get-push_cases : (xs : List Line) (y x : Line) (n : ℕ) → slice_get (xs ++ y ∷ []) n ≡ Some x → (slice_get xs n ≡ Some x) ⊎ ((n ≡ length xs) × (y ≡ x))

@@ -1,4 +1,5 @@
 pub mod Lists
+pub mod Indexing
 pub mod Faces
 pub mod Grow
 pub mod Carry
@@ -9,6 +10,7 @@ pub mod Stated
 pub mod Held
 pub mod Settling
 pub mod Descent
+pub mod Steps
 pub mod Made
 pub mod Certifying
 pub mod Verdicts

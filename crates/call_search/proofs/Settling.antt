@@ -7,7 +7,7 @@ use Rattle.verdict_meaning.specs.Systems.{System, root}
 use Rattle.verdict_meaning.specs.Solutions.{phi_by}
 use Rattle.verdict_meaning.specs.Certificates.{bit_at}
 use Rattle.verdict_meaning.specs.Derivations.{InstLinesAreTrue}
-use Rattle.call_search.specs.declared.ledger.Ledger.{Ledger}
+use Rattle.call_search.specs.Indexes.{Ledger}
 use Rattle.call_search.specs.declared.entries.Entry.{Entry}
 use Rattle.call_search.specs.declared.fill.Asked.{Asked}
 use Rattle.call_search.specs.declared.fill.Asked.TheVariants as asked

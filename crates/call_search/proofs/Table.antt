@@ -11,7 +11,7 @@ use Rattle.verdict_meaning.specs.declared.callee.Callee.{Callee}
 use Rattle.verdict_meaning.specs.Systems.{System, root}
 use Rattle.verdict_meaning.specs.Solutions.{phi_by}
 use Rattle.verdict_meaning.specs.Certificates.{bit_at}
-use Rattle.call_search.specs.declared.ledger.Ledger.{Ledger}
+use Rattle.call_search.specs.Indexes.{Ledger}
 use Rattle.call_search.specs.declared.entries.Entry.{Entry}
 use Rattle.call_search.specs.Shapes.{IsThere, IsShaped, before_own, stated}
 use Rattle.call_search.proofs.Faces.{own_within}

@@ -1,5 +1,5 @@
 -- What the lines of a search show.
-use Rattle.std.proofs.Common.{◌≡◌, ℕ, zero, suc, ◌+◌, ◌-◌, ◌<◌, ◌≤◌, ◌⊎◌, inl, inr, Bool, List, [], ◌∷◌, ◌++◌, Some, sym, ap, ◌∙◌, subst, arith, length, take, drop, slice_get, append_assoc}
+use Rattle.std.proofs.Common.{◌≡◌, ℕ, zero, suc, ◌+◌, ◌-◌, ◌<◌, ◌≤◌, ◌^◌, ◌⊎◌, inl, inr, Bool, List, [], ◌∷◌, ◌++◌, Some, sym, ap, ◌∙◌, subst, arith, length, take, drop, slice_get, append_assoc}
 use Rattle.std.proofs.lemmas.List.{take-append-drop}
 use Rattle.std.proofs.lemmas.Bool.{cases_lt}
 use Rattle.conflict_proof.specs.declared.names.ConstraintName.{ConstraintName}
@@ -11,11 +11,11 @@ use Rattle.verdict_meaning.specs.Systems.{System}
 use Rattle.own_cert.specs.declared.certificate.Certificate.{Certificate}
 use Rattle.verdict_meaning.specs.Certificates.{IsGoodIn, HasNoNeedless}
 use Rattle.verdict_meaning.specs.Derivations.{line_at, cost_of, IsRight, IsRightLine, IsValidIn, NoClauseTwice}
-use Rattle.call_search.specs.declared.ledger.Ledger.{Ledger}
+use Rattle.call_search.specs.Indexes.{Ledger}
 use Rattle.call_search.specs.declared.entries.Entry.{Entry}
 use Rattle.call_search.specs.declared.search.Found.{Found}
 use Rattle.call_search.specs.declared.search.Found.TheVariants as found
-use Rattle.call_search.specs.Ledgers.{Extends, IsOver}
+use Rattle.call_search.specs.Ledgers.{Extends, IsLedger, IsOver}
 use Rattle.call_search.specs.Answers.{FoundIs, IsRefuting, HasSolution}
 use Rattle.call_search.specs.Shapes.{IsShaped}
 use Rattle.call_search.specs.Made.{IsMade}
@@ -129,6 +129,14 @@ module _ (s : System) (U : ConstraintName → Bool) (known : List Line) (budget 
       within = let t = total in omega arith;
     };
   }
+
+-- the ledger with which the search begins
+pub begun : (s : System) (U : ConstraintName → Bool) (known : List Line) (budget : ℕ) (l : Ledger) → AreKnown s U known → cost_of known + budget < 2 ^ 32 → l.lines ≡ known → l.words ≡ budget → IsLedger s U l
+begun s U known budget l are small lines words = record {
+  valid = subst (λ (ls : List Line). IsValidIn s U ls) (sym lines) are.valid;
+  once = subst (λ (ls : List Line). NoClauseTwice ls) (sym lines) are.once;
+  small = let e = ap cost_of lines in omega arith;
+}
 
 pub judged_refuted : (s : System) (U : ConstraintName → Bool) (known : List Line) (budget : ℕ) (old new : Ledger) (t : List (List Entry)) (o : Found) (n : ℕ) (d ls : List Line) → AreKnown s U known → old.lines ≡ known → old.words ≡ budget → o ≡ found.Refuted n → FoundIs s U old new t o
     → ls ≡ new.lines → d ≡ take n ls → IsRefutation s U known budget d

@@ -8,7 +8,7 @@ use Rattle.verdict_meaning.specs.Systems.{System, root, callee, count}
 use Rattle.verdict_meaning.specs.Solutions.{IsLocal, phi_by, sigma_by}
 use Rattle.verdict_meaning.specs.Certificates.{bit_at}
 use Rattle.verdict_meaning.specs.Derivations.{InstLinesAreTrue, IsCarriedBy, line_at}
-use Rattle.call_search.specs.declared.ledger.Ledger.{Ledger}
+use Rattle.call_search.specs.Indexes.{Ledger}
 use Rattle.call_search.specs.declared.entries.Entry.{Entry}
 use Rattle.call_search.specs.declared.groups.Outcome.{Outcome}
 use Rattle.call_search.specs.declared.groups.Outcome.TheVariants as outcome
@@ -83,10 +83,10 @@ abbrev pub CarriedIs : System → (ConstraintName → Bool) → Ledger → Ledge
 CarriedIs s U old new None = IsPaid s U old new
 CarriedIs s U old new (Some line) = (new ≡ old) × IsOver s U new line
 
--- the last line, or the one that would be next, is of this group
-abbrev pub IsCarriedTo : ℕ → Ledger → Option Line → Type 0
-IsCarriedTo g new None = (before : List Line) (last : Line) → new.lines ≡ before ++ last ∷ [] → last.group ≡ g
-IsCarriedTo g new (Some line) = line.group ≡ g
+-- this line was added, or is the one that would be next
+abbrev pub IsAdded : Line → Ledger → Ledger → Option Line → Type 0
+IsAdded line old new None = new.lines ≡ old.lines ++ line ∷ []
+IsAdded line old new (Some next) = next ≡ line
 
 -- one site, or all sites from one up to another
 abbrev pub AskedIs : System → (ConstraintName → Bool) → List Bool → ℕ → List Bool → Ledger → Ledger → List (List Entry) → List (List Entry) → ℕ → ℕ → Asked → Type 0

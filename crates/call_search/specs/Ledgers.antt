@@ -9,7 +9,7 @@ use Rattle.verdict_meaning.specs.Systems.{System, count}
 use Rattle.verdict_meaning.specs.Solutions.{IsLocal}
 use Rattle.verdict_meaning.specs.Certificates.{bit_at}
 use Rattle.verdict_meaning.specs.Derivations.{line_at, line_cost, cost_of, IsValidIn, IsRightLine, NoClauseTwice, IsCarriedBy, InstLinesAreTrue}
-use Rattle.call_search.specs.declared.ledger.Ledger.{Ledger}
+use Rattle.call_search.specs.Indexes.{Ledger}
 
 -- valid lines without a clause twice in a group, whose words with those left have numbers
 pub record IsLedger (s : System) (U : ConstraintName → Bool) (l : Ledger) : Type 0 where

@@ -1,12 +1,15 @@
--- Renaming at a site.
-use Rattle.std.specs.Prelude.{◌≡◌, ℕ, ◌+◌, ◌-◌, Bool, nat_le, nat_lt, ◌||◌, cond, List, Some}
+-- Renaming at a site, and lines there.
+use Rattle.std.specs.Prelude.{◌≡◌, ℕ, ◌+◌, ◌-◌, ◌<◌, ◌≤◌, ◌⊎◌, Bool, false, nat_le, nat_lt, ◌||◌, cond, List, Some, length}
+use Rattle.std.specs.List.{All, Contains}
 use Rattle.zo_core.specs.Literals.{Literal}
 use Rattle.zo_core.specs.Truth.{clause_true}
 use Rattle.zo_core.specs.Order.{gathered}
 use Rattle.zo_core.specs.Renames.{renamed}
+use Rattle.conflict_proof.specs.declared.names.ConstraintName.{ConstraintName}
 use Rattle.conflict_proof.specs.declared.derivation.Line.{Line}
 use Rattle.verdict_meaning.specs.Systems.{System, callee}
-use Rattle.verdict_meaning.specs.Derivations.{line_at}
+use Rattle.verdict_meaning.specs.Certificates.{bit_at}
+use Rattle.verdict_meaning.specs.Derivations.{line_at, IsRightLine}
 use Rattle.call_search.specs.Shapes.{before_own, before_site}
 
 -- the unknown that stands for one of the called group, where the interface has so many parts, after so many unknowns
@@ -31,3 +34,20 @@ pub record IsLine (lines : List Line) (n : ℕ) : Type 0 where
 -- these are the literals of the line
 abbrev pub IsLitsOf : List Line → ℕ → List Literal → Type 0
 IsLitsOf lines n lits = (line : Line) → line_at lines n ≡ Some line → lits ≡ line.lits
+
+-- an unknown of the fields, or one that stands for the interface that a site of a group asks for
+abbrev pub IsOfSite : System → ℕ → ℕ → ℕ → Type 0
+IsOfSite s g site v = (v ≤ s.fields) ⊎ ((before_site s g site < v) × (v ≤ before_site s g (site + 1)))
+
+-- a line that is right at a site of a group, is false by bits, and speaks of fields and of what the site asks for alone
+pub record IsSaidAt (s : System) (U : ConstraintName → Bool) (lines : List Line) (g site : ℕ) (bits : List Bool) (line : Line) : Type 0 where
+  pub group : line.group ≡ g
+  pub right : IsRightLine s U lines (length lines + 1) line
+  pub denied : clause_true (bit_at bits) line.lits ≡ false
+  pub here : All (λ (l : Literal). IsOfSite s g site l.var) line.lits
+
+-- a literal of the clause is of an unknown above this one
+pub record HasOther (fields : ℕ) (c : List Literal) : Type 0 where
+  pub literal : Literal
+  pub there : Contains c literal
+  pub above : fields < literal.var

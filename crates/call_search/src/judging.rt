@@ -58,17 +58,14 @@ pub fn judge<G: Groups>(
     requires small { cost_of known + budget < 2 ^ 32 }
     ensures { IfOk result (JudgedIs (G.system groups.now) (G.counting groups.now) known budget) }
 {
-    let mut ledger = Ledger {
-        lines: known,
-        words: budget,
-    };
+    let mut ledger = Ledger::new(alloc, known, budget)?;
     let mut table = Vec::new(alloc);
     match search(alloc, groups, &mut ledger, &mut table)? {
         Found::Solution(top) => {
             let c = certificate(alloc, groups, top.items.as_slice(), &table)?;
-            Ok(Judged::Accepted(c, ledger.lines))
+            Ok(Judged::Accepted(c, ledger.into_lines()))
         }
-        Found::Refuted(n) => Ok(Judged::Refuted(first_lines(ledger.lines, n))),
-        Found::Spent(line) => Ok(Judged::Undecided(with_line(ledger.lines, line)?)),
+        Found::Refuted(n) => Ok(Judged::Refuted(first_lines(ledger.into_lines(), n))),
+        Found::Spent(line) => Ok(Judged::Undecided(with_line(ledger.into_lines(), line)?)),
     }
 }

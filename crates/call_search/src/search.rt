@@ -73,8 +73,8 @@ fn renew(
     emptied(alloc, kept, groups)
 }
 
-/// Searches for what the root asks for by its bits, and begins again after each line that refutes other instances
-/// alone. Instances that no line refutes are kept.
+/// Searches for what the root asks for by its bits: goes down to it, and gathers it. Begins again, where some of it was not
+/// there to gather. Instances that no line refutes are kept.
 fn settle<G: Groups>(
     alloc: Global,
     groups: &G,

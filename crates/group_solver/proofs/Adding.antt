@@ -13,7 +13,7 @@ use Rattle.zo_solver.specs.Trail.{IsClauseOver}
 use Rattle.zo_solver.specs.Accounts.{Account, IsAdded, AddMeans, IsFresh}
 use Rattle.zo_solver.specs.declared.answers.Origin.{Origin}
 use Rattle.zo_solver.specs.declared.answers.Origin.TheVariants.{Lemma}
-use Rattle.call_search.specs.declared.ledger.Ledger.{Ledger}
+use Rattle.call_search.specs.Indexes.{Ledger}
 use Rattle.group_solver.specs.Lemmas.{words_of, AreLemmas, HasLemmas, IsBegun}
 use Rattle.group_solver.proofs.Lists.{same_some, get_kept, get_next, get_push_cases, get_below, take_step}
 

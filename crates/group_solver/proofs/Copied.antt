@@ -16,7 +16,7 @@ use Rattle.zo_solver.specs.Accounts.{Account, IsOver}
 use Rattle.zo_solver.specs.declared.answers.Origin.{Origin}
 use Rattle.zo_solver.specs.declared.answers.Origin.TheVariants.{Given, Lemma, Resolved}
 use Rattle.call_search.specs.Ledgers.{IsNew}
-use Rattle.call_search.specs.declared.ledger.Ledger.{Ledger}
+use Rattle.call_search.specs.Indexes.{Ledger}
 use Rattle.group_solver.specs.Copies.{IsOwnHow, IsLineOf, IsNext, IsCopying, HasRow, HowIs, IsPut}
 use Rattle.group_solver.specs.Marks.{AreAll, IsClosedFrom, PremisesAreBelow, PremisesAreMarked}
 use Rattle.group_solver.proofs.Marked.{below_is}

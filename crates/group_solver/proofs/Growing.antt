@@ -9,7 +9,7 @@ use Rattle.conflict_proof.specs.declared.derivation.Line.{Line}
 use Rattle.transfer_rules.specs.Names.{NamedClause}
 use Rattle.verdict_meaning.specs.Derivations.{line_at, line_cost, cost_of, NoClauseTwice}
 use Rattle.call_search.specs.Ledgers.{IsNew}
-use Rattle.call_search.specs.declared.ledger.Ledger.{Ledger}
+use Rattle.call_search.specs.Indexes.{Ledger}
 use Rattle.group_solver.specs.Copies.{IsOwnHow, IsOwnLine, IsLineOf, IsCopied}
 use Rattle.group_solver.proofs.Lists.{get_kept, get_push_cases, numbered_within}
 

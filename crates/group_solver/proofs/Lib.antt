@@ -2,6 +2,7 @@ pub mod Lists
 pub mod Growing
 pub mod Copied
 pub mod Adding
+pub mod Placing
 pub mod Solved
 pub mod Marked
 pub mod Reading

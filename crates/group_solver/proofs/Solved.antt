@@ -24,7 +24,7 @@ use Rattle.zo_solver.specs.Accounts.{Account, Advances, IsSatisfied}
 use Rattle.zo_solver.specs.declared.answers.Origin.{Origin}
 use Rattle.zo_solver.specs.declared.answers.Origin.TheVariants.{Lemma}
 use Rattle.call_search.specs.Ledgers.{IsLedger, IsOver, IsDenied, IsSolved, IsGiven, AreOwn, Solves}
-use Rattle.call_search.specs.declared.ledger.Ledger.{Ledger}
+use Rattle.call_search.specs.Indexes.{Ledger}
 use Rattle.group_solver.specs.Rows.{IsSolvedFor}
 use Rattle.group_solver.specs.Lemmas.{AreOver, IsBegun}
 use Rattle.group_solver.specs.Values.{AreValues}

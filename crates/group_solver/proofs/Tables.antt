@@ -12,7 +12,7 @@ use Rattle.verdict_meaning.specs.Programs.{NamesAreApart, system_in}
 use Rattle.unit_answers.specs.Tables.{IsTableOf, clauses_of_group, table_in}
 use Rattle.unit_answers.proofs.Rows.{tables_are}
 use Rattle.call_search.specs.Ledgers.{IsLedger}
-use Rattle.call_search.specs.declared.ledger.Ledger.{Ledger}
+use Rattle.call_search.specs.Indexes.{Ledger}
 use Rattle.group_solver.specs.Rows.{IsSolvedFor}
 
 -- the clauses of a group that is not the root

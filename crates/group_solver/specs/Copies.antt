@@ -16,7 +16,7 @@ use Rattle.zo_solver.specs.declared.answers.Origin.{Origin}
 use Rattle.zo_solver.specs.declared.answers.Origin.TheVariants.{Given, Lemma, Resolved}
 use Rattle.call_search.specs.Ledgers.{IsNew}
 use Rattle.group_solver.specs.Marks.{AreAll}
-use Rattle.call_search.specs.declared.ledger.Ledger.{Ledger}
+use Rattle.call_search.specs.Indexes.{Ledger}
 
 -- Lines of a group's own
 

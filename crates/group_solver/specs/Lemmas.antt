@@ -8,7 +8,7 @@ use Rattle.zo_solver.specs.Trail.{IsClauseOver}
 use Rattle.zo_solver.specs.Accounts.{Account}
 use Rattle.zo_solver.specs.declared.answers.Origin.{Origin}
 use Rattle.zo_solver.specs.declared.answers.Origin.TheVariants.{Lemma}
-use Rattle.call_search.specs.declared.ledger.Ledger.{Ledger}
+use Rattle.call_search.specs.Indexes.{Ledger}
 
 -- the words that the lines of a group cost
 abbrev pub words_of : ℕ → List Line → ℕ

@@ -5,7 +5,7 @@ use Rattle.transfer_rules.specs.Names.{NamedClause}
 use Rattle.verdict_meaning.specs.Systems.{System, root, count}
 use Rattle.unit_answers.specs.Tables.{IsTableOf}
 use Rattle.call_search.specs.Ledgers.{IsLedger}
-use Rattle.call_search.specs.declared.ledger.Ledger.{Ledger}
+use Rattle.call_search.specs.Indexes.{Ledger}
 
 -- the root has no table
 abbrev pub rows_in : Option (List NamedClause) → List NamedClause

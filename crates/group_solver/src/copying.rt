@@ -67,30 +67,11 @@ fn copy_line(
 {
     let how = how_of(places, table, solver.origin(number))?;
     let lits = clause_of(alloc, solver.line(number), vars)?;
-    let Ok(place) = u32::try_from(lines_of(ledger).len() + 1) else {
+    let Ok(place) = u32::try_from(ledger.lines().len() + 1) else {
         return Err(Memory);
     };
-    put(ledger, Line { group, how, lits })?;
+    ledger.push(alloc, Line { group, how, lits })?;
     Ok(place)
-}
-
-/// Puts a line behind those of the ledger, and pays it.
-fn put(ledger: &mut Ledger, line: Line) -> Result<(), Memory>
-    requires { length line.lits + 1 ≤ ledger.old.words }
-    ensures lines { OnOk result (ledger.new.lines ≡ ledger.old.lines ++ line ∷ []) }
-    ensures words { OnOk result (ledger.new.words + (length line.lits + 1) ≡ ledger.old.words) }
-{
-    let cost = line.lits.lits().len() as u64 + 1;
-    ledger.lines.items.push(line)?;
-    ledger.words -= cost;
-    Ok(())
-}
-
-/// The lines of a ledger.
-pub(crate) fn lines_of(ledger: &Ledger) -> &[Line]
-    ensures { result.now ≡ ledger.now.lines }
-{
-    ledger.lines.items.as_slice()
 }
 
 /// Where a line of a group's solver comes from, by the places of the lines before it. A lemma has a place itself, and is

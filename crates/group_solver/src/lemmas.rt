@@ -3,6 +3,7 @@
 ghost use Rattle.std.specs.Prelude.{◌≡◌, ◌+◌, ◌<◌, ◌^◌, [], length, IfOk, OnOk};
 ghost use Rattle.verdict_meaning.specs.Derivations.{cost_of, NoClauseTwice};
 ghost use Rattle.zo_solver.specs.Accounts.{Account};
+ghost use Rattle.call_search.specs.Indexes.{ArePlaces};
 ghost use Rattle.group_solver.specs.Lemmas.{words_of, AreOver, HasLemmas};
 
 use c_tree::Memory;
@@ -10,39 +11,41 @@ use conflict_proof::Line;
 use std::alloc::Global;
 use zo_solver::Solver;
 
-/// The words that the lines of a group cost.
-pub(crate) fn own_cost(lines: &[Line], group: u32) -> u64
-    requires { cost_of lines.now < 2 ^ 32 }
-    ensures { result ≡ words_of group lines.now }
+/// The words that the lines of a group cost, which stand at these places.
+pub(crate) fn own_cost(lines: &[Line], _group: u32, places: &[u32]) -> u64
+    requires small { cost_of lines.now < 2 ^ 32 }
+    requires places { ArePlaces lines.now _group 0 places.now }
+    ensures { result ≡ words_of _group lines.now }
 {
     let mut words = 0;
-    for line in lines {
-        if line.group == group {
-            words += line.lits.lits().len() as u64 + 1;
-        }
+    for place in places {
+        let line = &lines[*place as usize];
+        words += line.lits.lits().len() as u64 + 1;
     }
     words
 }
 
-/// Adds the lines of a group as lemmas, and says which line each lemma is.
+/// Adds the lines of a group as lemmas, which stand at these places, and says which line each lemma is.
 pub(crate) fn add_lemmas(
     alloc: Global,
     solver: &mut Solver,
     lines: &[Line],
     group: u32,
+    places: &[u32],
 ) -> Result<Vec<u32>, Memory>
+    requires places { ArePlaces lines.now group 0 places.now }
     requires lines { solver.old.lines ≡ [] }
     requires origins { solver.old.origins ≡ [] }
     requires once { NoClauseTwice lines.now }
     requires over { AreOver solver.old.vars group lines.now }
     requires few { length lines.now < 2 ^ 32 }
-    ensures { IfOk result (λ places. HasLemmas lines.now group (length lines.now) places.items solver.old solver.new) }
+    ensures { IfOk result (λ numbers. HasLemmas lines.now group (length lines.now) numbers.items solver.old solver.new) }
 {
-    let mut places = Vec::new(alloc);
-    for at in 0..lines.len() {
-        add_lemma(solver, &mut places, lines, at, group)?;
+    let mut numbers = Vec::new(alloc);
+    for place in places {
+        add_lemma(solver, &mut numbers, lines, *place as usize, group)?;
     }
-    Ok(places)
+    Ok(numbers)
 }
 
 /// Adds a line, where it is of the group.

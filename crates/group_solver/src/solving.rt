@@ -16,7 +16,7 @@ ghost use Rattle.group_solver.specs.Lemmas.{AreOver, IsBegun};
 ghost use Rattle.group_solver.specs.Rows.{rows_in, IsSolvedFor};
 
 use crate::clauses::{clause_of, clauses_of};
-use crate::copying::{copy, how_of, lines_of};
+use crate::copying::{copy, how_of};
 use crate::lemmas::{add_lemmas, own_cost};
 use crate::marking::{all_marked, stood_on};
 use crate::values::{are_numbered, values};
@@ -117,11 +117,12 @@ fn begin(
     requires over { AreOver vars group ledger.now.lines }
     ensures { IfOk result (λ b. IsBegun (rows_in table.now) group vars ledger.now b.places.items b.solver) }
 {
-    let lines = lines_of(ledger);
+    let lines = ledger.lines();
+    let of_group = ledger.of_group(group);
     let clauses = clauses_of(alloc, table, vars)?;
-    let words = ledger.words + own_cost(lines, group);
+    let words = ledger.words() + own_cost(lines, group, of_group);
     let mut solver = Solver::new(alloc, vars, &clauses, words)?;
-    let places = add_lemmas(alloc, &mut solver, lines, group)?;
+    let places = add_lemmas(alloc, &mut solver, lines, group, of_group)?;
     Ok(Begun { solver, places })
 }
 

@@ -23,5 +23,5 @@ returns-in-Yes-clause-answer g c =
 
 pub returns-in-None-clause-answer : goal.returns-in-None-clause-answer
 returns-in-None-clause-answer g c =
-    none_paid (g.G.Shapes.system c.args.groups.now) (g.G.Groups.counting c.args.groups.now) c.callee-callee.result.group c.args.ledger.now c.obtain.new.ledger c.carry.new.ledger c.in_ok-carry-in-Refused.field-0 c.in-None.is c.in_ok-carry-in-Refused.ensures.answer
+    none_paid (g.G.Shapes.system c.args.groups.now) (g.G.Groups.counting c.args.groups.now) c.callee-callee.result.group c.args.ledger.now c.obtain.new.ledger c.carry.new.ledger c.in_ok-carry-in-Refused.field-0 c.in-None.is c.in_ok-carry-in-Refused.ensures
     (refused_solves (g.G.Shapes.system c.args.groups.now) (g.G.Groups.counting c.args.groups.now) c.args.phi.now c.args.ledger.now c.obtain.new.ledger c.args.table.now.items c.obtain.new.table.items c.callee-callee.result c.asked_face-face.result.now c.in_ok-obtain.field-0 c.in-Refused.n c.in-Refused.is c.in_ok-obtain.ensures.answer)

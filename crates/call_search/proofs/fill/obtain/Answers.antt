@@ -1,5 +1,5 @@
 use Rattle.std.proofs.Common.{◌∙◌, subst}
-use Rattle.call_search.specs.declared.ledger.Ledger.{Ledger}
+use Rattle.call_search.specs.Indexes.{Ledger}
 use Rattle.call_search.specs.Entries.{IsTable}
 use Rattle.call_search.specs.Answers.{IsObtained}
 use Rattle.call_search.proofs.Table.{table_sized, found_it, sat_obtained, refused, kept_obtained, fewer_kept, kept_sized, put_for}

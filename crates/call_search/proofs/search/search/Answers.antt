@@ -1,7 +1,7 @@
 use Rattle.std.proofs.Common.{◌∙◌, ap, sym, subst, Bool, List}
 use Rattle.verdict_meaning.specs.Solutions.{phi_by}
 use Rattle.verdict_meaning.specs.Certificates.{bit_at}
-use Rattle.call_search.specs.declared.ledger.Ledger.{Ledger}
+use Rattle.call_search.specs.Indexes.{Ledger}
 use Rattle.call_search.specs.Ledgers.{Extends}
 use Rattle.call_search.specs.Entries.{AreKept}
 use Rattle.call_search.proofs.Asking.{root_refuted, top_same}

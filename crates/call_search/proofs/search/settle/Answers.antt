@@ -5,7 +5,7 @@ use Rattle.call_search.specs.Frames.{IsDescended}
 use Rattle.call_search.proofs.Settling.{fresh_left, settled, turned, kept_after, asker_after, extends_none, filled_paid, filled_kept, last_is}
 use Rattle.call_search.proofs.Grow.{extends-trans}
 use Rattle.call_search.proofs.Asking.{fewer-words}
-use Rattle.call_search.proofs.Descent.{descended_kept, descended_turned, descended_over}
+use Rattle.call_search.proofs.Steps.{descended_kept, descended_turned, descended_over}
 use Rattle.call_search.proofs.search.settle.Goals as goal
 
 pub again-init : goal.again-init

@@ -1,22 +1,11 @@
-use Rattle.std.proofs.Common.{◌+◌, sym, refl, subst, length, List}
-use Rattle.zo_core.specs.Literals.{Literal}
-use Rattle.zo_core.specs.Renames.{KeepsApart}
+use Rattle.call_search.proofs.Carry.{said_new}
+use Rattle.verdict_meaning.specs.Solutions.{phi_by}
 use Rattle.verdict_meaning.specs.Certificates.{bit_at}
-use Rattle.call_search.specs.Sites.{image_at}
-use Rattle.call_search.proofs.Carry.{keeps_apart, next-right, next-new}
 use Rattle.call_search.proofs.site.carry.Goals as goal
 
-pub carried_clause-requires-clause-apart : goal.carried_clause-requires-clause-apart
-carried_clause-requires-clause-apart g c =
-    subst (λ (ls : List Literal). KeepsApart (image_at (g.G.Shapes.system c.args.groups.now) c.args.group c.args.site) ls) (sym (c.line_lits.ensures.line c.requires.denied.line c.requires.denied.there))
-    (keeps_apart (g.G.Shapes.system c.args.groups.now) (g.met.G.Shapes.shaped c.args.groups.now) (bit_at c.args.bits.now) c.args.group c.args.site c.requires.site c.requires.denied.line.lits c.requires.denied.denied)
-
 pub add-requires-clause-right : goal.add-requires-clause-right
-add-requires-clause-right g c =
-    next-right (g.G.Shapes.system c.args.groups.now) (g.met.G.Shapes.shaped c.args.groups.now) (bit_at c.args.bits.now) c.args.group c.args.site c.requires.site (g.G.Groups.counting c.args.groups.now) c.args.ledger.now c.requires.ledger c.requires.group c.args.bits.now refl c.requires.asker c.args.n c.requires.denied
-    c.line_lits.result.now c.in_ok-lits.lits (c.line_lits.ensures.line c.requires.denied.line c.requires.denied.there) c.in_ok-lits.ensures (length c.args.ledger.now.lines + 1) refl
+add-requires-clause-right g c = c.in_ok-line.ensures.right
 
 pub add-requires-clause-new : goal.add-requires-clause-new
 add-requires-clause-new g c =
-    next-new (g.G.Shapes.system c.args.groups.now) (g.met.G.Shapes.shaped c.args.groups.now) (bit_at c.args.bits.now) c.args.group c.args.site c.requires.site (g.G.Groups.counting c.args.groups.now) c.args.ledger.now c.requires.ledger c.requires.group c.args.bits.now refl c.requires.asker c.args.n c.requires.denied
-    c.line_lits.result.now c.in_ok-lits.lits (c.line_lits.ensures.line c.requires.denied.line c.requires.denied.there) c.in_ok-lits.ensures c.local_lines_are_true.ensures
+    said_new c.local_lines_are_true.ensures (g.G.Shapes.system c.args.groups.now) (g.G.Groups.counting c.args.groups.now) c.args.ledger.now.lines (phi_by (g.G.Shapes.system c.args.groups.now) (bit_at c.args.bits.now)) c.args.group c.args.site c.args.bits.now c.in_ok-line.line c.requires.ledger.valid c.requires.asker c.in_ok-line.ensures

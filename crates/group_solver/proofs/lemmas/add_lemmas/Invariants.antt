@@ -1,5 +1,5 @@
-use Rattle.group_solver.specs.Lemmas.{HasLemmas}
+use Rattle.group_solver.proofs.Placing.{AreAdded}
 use Rattle.group_solver.proofs.lemmas.add_lemmas.Given as goal
 
-abbrev pub invariant-loop-at : goal.invariant-loop-at
-invariant-loop-at l = HasLemmas l.lines l.group l.at l.places.items l.fn.solver l.solver
+abbrev pub invariant-loop-place : goal.invariant-loop-place
+invariant-loop-place l = AreAdded l.lines l.group l.places l.place-index l.numbers.items l.fn.solver l.solver

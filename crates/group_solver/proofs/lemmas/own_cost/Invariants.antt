@@ -1,6 +1,5 @@
-use Rattle.std.proofs.Common.{◌≡◌, take}
-use Rattle.group_solver.specs.Lemmas.{words_of}
+use Rattle.group_solver.proofs.Placing.{AreCounted}
 use Rattle.group_solver.proofs.lemmas.own_cost.Given as goal
 
-abbrev pub invariant-loop-line : goal.invariant-loop-line
-invariant-loop-line l = l.words ≡ words_of l.group (take l.line-index l.lines)
+abbrev pub invariant-loop-place : goal.invariant-loop-place
+invariant-loop-place l = AreCounted l.lines l._group l.places l.place-index l.words
