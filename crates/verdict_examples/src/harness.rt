@@ -1,7 +1,7 @@
 // Runs of the top call over files in memory.
 ghost use Rattle.std.specs.Prelude.{◌<◌};
 
-use clouseau_core::{Words, clouseau};
+use clouseau_core::{Report, Words, clouseau};
 use io_edge::{Bytes, MemFiles, MemSink, NamedFile, NamedFiles, Numbers};
 use std::alloc::{AllocError, Global};
 use std::process::Abort;
@@ -47,6 +47,25 @@ pub fn verify(alloc: Global, source: &str, text: &str) -> Result<Given, Fail> {
     run(alloc, "verify a.c t", source.as_bytes(), text.as_bytes())
 }
 
+/// What the call returns for these words on a source named `a.c` and a text named `t`.
+pub fn report(alloc: Global, words: &str, source: &str, text: &str) -> Result<Report, Fail> {
+    let mut files = files(alloc, source.as_bytes(), text.as_bytes(), PIECE, NONE_FAILS)?;
+    let mut out = sink(alloc, ROOM, PIECE, NONE_FAILS)?;
+    let mut err = sink(alloc, ROOM, PIECE, NONE_FAILS)?;
+    call(alloc, words, &mut files, &mut out, &mut err)
+}
+
+fn call(
+    alloc: Global,
+    words: &str,
+    files: &mut MemFiles,
+    out: &mut MemSink,
+    err: &mut MemSink,
+) -> Result<Report, Fail> {
+    let words = words_of(alloc, words)?;
+    Ok(clouseau(alloc, &words, files, out, err))
+}
+
 /// Runs the words on files and outputs of the example's own.
 pub fn run_on(
     alloc: Global,
@@ -55,9 +74,7 @@ pub fn run_on(
     out: &mut MemSink,
     err: &mut MemSink,
 ) -> Result<Given, Fail> {
-    let words = words_of(alloc, words)?;
-    let report = clouseau(alloc, &words, files, out, err);
-    let status = report.status;
+    let status = call(alloc, words, files, out, err)?.status;
     let out = text_of(alloc, out.given())?;
     let err = text_of(alloc, err.given())?;
     Ok(Given { status, out, err })

@@ -20,11 +20,15 @@ mod devices;
 #[cfg(test)]
 mod harness;
 #[cfg(test)]
+mod inferred;
+#[cfg(test)]
 mod limits;
 #[cfg(test)]
 mod proved;
 #[cfg(test)]
 mod refused;
+#[cfg(test)]
+mod reports;
 #[cfg(test)]
 mod samples;
 #[cfg(test)]

@@ -133,6 +133,31 @@ fn within_the_limits(rt: HostRuntime) -> Result<(), Fail> {
     Ok(())
 }
 
+/// The annotation of a `main` with so many pointers, which are set nowhere.
+fn annotation(alloc: Global, pointers: u32) -> Result<String, AllocError> {
+    let mut text = String::from_str(alloc, "accepted\nproc main() -> int\n")?;
+    for number in 0..pointers {
+        write!(text, "  local p{number}:1 borrows\n")?;
+    }
+    Ok(text)
+}
+
+/// A pointer at each of 2,894 and four places: 8,386,812 unknowns, of 8,388,608 that may be.
+#[test]
+fn nearly_the_most_unknowns(rt: HostRuntime) -> Result<(), Fail> {
+    let source = repeated(
+        rt.alloc(),
+        "int main(void) { ",
+        "int *p",
+        2_894,
+        "return 0; }",
+    )?;
+    let given = run(rt.alloc(), "check a.c", source.as_bytes(), b"")?;
+    let text = annotation(rt.alloc(), 2_894)?;
+    expect(&rt, &given, 0, text.as_str(), "");
+    Ok(())
+}
+
 fn push_times(out: &mut String, text: &str, times: u32) -> Result<(), AllocError> {
     for _ in 0..times {
         out.push_str(text)?;
